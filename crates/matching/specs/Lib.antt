@@ -1,0 +1,6 @@
+pub mod Bits
+pub mod Refusals
+pub mod Entry
+pub mod Request
+pub mod EarlyMessages
+pub mod Events
