@@ -7,7 +7,7 @@ use borrow.Author.Tests.{le-leb}
 use lib.Dec.{leb}
 use Rattle.matching.specs.Bits.{isSet}
 use Rattle.matching.specs.Entry.{MANAGE-LOCAL, NO-TRUNCATE, sameOrAny}
-use Rattle.matching.specs.Request.{offsetUsed, available, bitsAgree, untruncated, matches, accepted, place, localAfter}
+use Rattle.matching.specs.Request.{offsetUsed, available, bitsAgree, allowsLength, matches, accepted, place, localAfter}
 use Rattle.matching.specs.declared.layout.Entry.{Entry}
 use Rattle.matching.specs.declared.request.Arrival.{Arrival}
 
@@ -23,7 +23,7 @@ pub record Alike (a b : Arrival) : Type 0 where
 
 -- a match depends on nothing else: not on the kind, the uid or the header data
 pub matches-alike : (e : Entry) (local : ℕ) {a b : Arrival} → Alike a b → matches e local a ≡ matches e local b
-unfolding matches untruncated available offsetUsed
+unfolding matches allowsLength available offsetUsed
 matches-alike e local h = rw (h .requested, h .nid, h .pid, h .matchbits, h .offset)
 
 -- an arrival with another uid
@@ -49,9 +49,9 @@ or-true true = refl
 or-true false = refl
 
 -- a request of 0 bytes never fails NO_TRUNCATE
-pub empty-untruncated : (e : Entry) (local : ℕ) (a : Arrival) → a .requested ≡ 0 → untruncated e local a ≡ true
-unfolding untruncated
-empty-untruncated e local a h =
+pub allows-empty : (e : Entry) (local : ℕ) (a : Arrival) → a .requested ≡ 0 → allowsLength e local a ≡ true
+unfolding allowsLength
+allows-empty e local a h =
     rw (le-leb (a .requested) (available e local a) (omega arith)) (or-true (not (isSet (e .options) NO-TRUNCATE)))
 
 -- ## Rule 5: where the accepted bytes lie

@@ -1,11 +1,11 @@
 // Document 01, "Entry": the option bits, the any value, and the tests that append and search make of their entry.
 use crate::layout::Entry;
-use crate::refusals::Fault;
+use crate::refusals::BadArgument;
 ghost use mathlib.Core.Path.{_≡_};
 ghost use Rattle.matching.specs.Bits.{isSet};
-ghost use Rattle.matching.specs.Entry.{sameOrAny, isCounter, entryFault};
+ghost use Rattle.matching.specs.Entry.{sameOrAny, isCounter, isCounterOrNone, badEntryArgument};
 
-// The numbers of the option bits.
+// The numbers of the option bits (names of the Portals report, 3.12.1).
 pub const OP_PUT: u32 = 0;
 
 pub const OP_GET: u32 = 1;
@@ -36,13 +36,13 @@ pub const CT_OVERFLOW: u32 = 13;
 
 pub const CT_BYTES: u32 = 14;
 
-// In uid, nid or pid of an entry: any.
+// In uid, nid or pid of an entry: any. A request may not carry it.
 pub const ANY: u32 = 4294967295;
 
 // In an entry's counter: none.
 pub const NO_COUNTER: u8 = 255;
 
-// An option bit is set. A number has no bit 32 and above.
+// An option bit is set. A u32 has none from 32 on.
 pub fn is_set(options: u32, bit: u32) -> bool
     ensures { λ r. ⌜ r ≡ isSet options bit ⌝ }
 {
@@ -60,31 +60,39 @@ pub fn same_or_any(own: u32, other: u32) -> bool
     (own == ANY) | (own == other)
 }
 
-// The number of a counting event, or none.
+// The number of a counting event.
 pub fn is_counter(counter: u8) -> bool
     ensures { λ r. ⌜ r ≡ isCounter counter ⌝ }
 {
-    (counter < 16) | (counter == NO_COUNTER)
+    counter < 16
 }
 
-// The first bad argument of an append or a search to a target whose memory has `size` bytes.
-pub fn entry_fault(e: Entry, size: u32) -> Fault
-    ensures { λ r. ⌜ r ≡ entryFault e size ⌝ }
+// The number of a counting event, or none: what an entry may name.
+pub fn is_counter_or_none(counter: u8) -> bool
+    ensures { λ r. ⌜ r ≡ isCounterOrNone counter ⌝ }
+{
+    is_counter(counter) | (counter == NO_COUNTER)
+}
+
+// The first bad argument of an append or a search, where the target's memory has `size` bytes.
+pub fn bad_entry_argument(e: Entry, size: u32) -> BadArgument
+    ensures { λ r. ⌜ r ≡ badEntryArgument e size ⌝ }
 {
     if 7 < e.portal {
-        return Fault::Portal;
+        return BadArgument::Portal;
     }
     if 1 < e.list {
-        return Fault::ListOrMode;
+        return BadArgument::ListOrMode;
     }
-    if !is_counter(e.counter) {
-        return Fault::Counter;
+    if !is_counter_or_none(e.counter) {
+        return BadArgument::Counter;
     }
+    // A bit above 14.
     if 32768 <= e.options {
-        return Fault::Option;
+        return BadArgument::Option;
     }
     if (size as u64) < e.start as u64 + e.length as u64 {
-        return Fault::Region;
+        return BadArgument::Region;
     }
-    Fault::None
+    BadArgument::None
 }

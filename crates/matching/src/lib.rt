@@ -1,4 +1,5 @@
-// Document 01's matching rules: one entry, one request, no state and no memory.
+// Document 01's matching rules: what it says of one entry and one request, with no state and no memory.
+pub mod counters;
 pub mod early;
 pub mod entry;
 pub mod events;

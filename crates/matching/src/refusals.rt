@@ -1,6 +1,6 @@
 // Document 01, "Refusals": the five, and which argument stands behind ARG_INVALID.
 ghost use mathlib.Core.Path.{_≡_};
-ghost use Rattle.matching.specs.Refusals.{refusalNumber, noFault};
+ghost use Rattle.matching.specs.Refusals.{refusalNumber, noneBad};
 
 // Why a call is refused, in the order in which the five are tested.
 pub enum Refusal {
@@ -24,8 +24,8 @@ pub fn refusal_number(r: Refusal) -> u32
     }
 }
 
-// The first bad argument of a call, or none. The order is that in which the arguments are tested (document 02, ii).
-pub enum Fault {
+// The first bad argument of a call, or none. They stand in the order in which they are tested (document 02, ii).
+pub enum BadArgument {
     None,
     Portal,
     ListOrMode,
@@ -35,21 +35,27 @@ pub enum Fault {
     Identity,
     Ack,
     Size,
+    Handle,
+    Register,
+    ListLength,
 }
 
-// No argument is bad: the call is not ARG_INVALID.
-pub fn is_faultless(f: Fault) -> bool
-    ensures { λ r. ⌜ r ≡ noFault f ⌝ }
+// No argument is bad. Any that is makes the call ARG_INVALID.
+pub fn none_bad(f: BadArgument) -> bool
+    ensures { λ r. ⌜ r ≡ noneBad f ⌝ }
 {
     match f {
-        Fault::None => true,
-        Fault::Portal => false,
-        Fault::ListOrMode => false,
-        Fault::Counter => false,
-        Fault::Option => false,
-        Fault::Region => false,
-        Fault::Identity => false,
-        Fault::Ack => false,
-        Fault::Size => false,
+        BadArgument::None => true,
+        BadArgument::Portal => false,
+        BadArgument::ListOrMode => false,
+        BadArgument::Counter => false,
+        BadArgument::Option => false,
+        BadArgument::Region => false,
+        BadArgument::Identity => false,
+        BadArgument::Ack => false,
+        BadArgument::Size => false,
+        BadArgument::Handle => false,
+        BadArgument::Register => false,
+        BadArgument::ListLength => false,
     }
 }

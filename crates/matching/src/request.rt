@@ -1,22 +1,24 @@
-// Document 01, "Request": a request's own tests, and rules 1, 2 and 4 to 7 for one entry.
+// Document 01, "Request": a request's own tests, and what its rules say of one entry: rules 1, 2 and 7, and the parts of rules 4 to 6
+// that need neither the lists nor the memory.
 use crate::entry;
 use crate::entry::ANY;
 use crate::layout::Entry;
 use crate::layout::Request;
-use crate::refusals::Fault;
+use crate::refusals::BadArgument;
 ghost use mathlib.Core.Path.{_≡_};
 ghost use Prim.Native.Nat.{_-_};
 ghost use Rattle.matching.specs.Request.{
   hdrdataOf,
   arrivalOf,
-  requestFault,
+  badRequestArgument,
   offsetUsed,
   available,
   bitsAgree,
-  untruncated,
+  allowsLength,
   matches,
   enabled,
   verdictOn,
+  isGranted,
   accepted,
   place,
   localAfter,
@@ -30,7 +32,7 @@ pub enum Kind {
     Get,
 }
 
-// A request as the rules see it, with the kind and the requested length that the call added. A waiting header keeps the same.
+// A request as it arrives, with the kind and the requested length that the call adds. A waiting header keeps these values.
 pub struct Arrival {
     pub kind: Kind,
     pub requested: u32,
@@ -42,11 +44,11 @@ pub struct Arrival {
     pub hdrdata: u64,
 }
 
-// Rule 4's verdict on the chosen entry.
+// What an entry says to a request that it matches: it may go in, or which violation forbids it.
 pub enum Verdict {
     Granted,
-    Permission,
-    Operation,
+    PermissionViolation,
+    OperationViolation,
 }
 
 // A get's header data is 0.
@@ -76,20 +78,20 @@ pub fn arrival_of(q: Request, kind: Kind, requested: u32) -> Arrival
     }
 }
 
-// The first bad argument of a request for `requested` bytes. Its portal is none: above 7 it is dropped.
-pub fn request_fault(q: Request, requested: usize) -> Fault
-    ensures { λ r. ⌜ r ≡ requestFault q requested ⌝ }
+// The first bad argument of a request for `requested` bytes. A portal above 7 is no bad argument: that request is DROPPED.
+pub fn bad_request_argument(q: Request, requested: usize) -> BadArgument
+    ensures { λ r. ⌜ r ≡ badRequestArgument q requested ⌝ }
 {
     if (q.nid == ANY) | (q.pid == ANY) | (q.uid == ANY) {
-        return Fault::Identity;
+        return BadArgument::Identity;
     }
     if 3 < q.ack {
-        return Fault::Ack;
+        return BadArgument::Ack;
     }
     if 65536 < requested {
-        return Fault::Size;
+        return BadArgument::Size;
     }
-    Fault::None
+    BadArgument::None
 }
 
 // A region's length less an offset, 0 if the offset is beyond.
@@ -126,16 +128,16 @@ pub fn available_length(e: Entry, local: u32, a: Arrival) -> u32
 pub fn bits_agree(own: u64, ignored: u64, incoming: u64) -> bool
     ensures { λ r. ⌜ r ≡ bitsAgree own ignored incoming ⌝ }
 {
-    (own ^ incoming) | ignored == ignored
+    ((own ^ incoming) | ignored) == ignored
 }
 
 // Rule 2, the length: with NO_TRUNCATE, the requested length is at most the available.
-pub fn is_untruncated(e: Entry, local: u32, a: Arrival) -> bool
-    ensures { λ r. ⌜ r ≡ untruncated e local a ⌝ }
+pub fn allows_length(e: Entry, local: u32, a: Arrival) -> bool
+    ensures { λ r. ⌜ r ≡ allowsLength e local a ⌝ }
 {
-    let whole = entry::is_set(e.options, entry::NO_TRUNCATE);
+    let no_truncate = entry::is_set(e.options, entry::NO_TRUNCATE);
     let room = available_length(e, local, a);
-    !whole | (a.requested <= room)
+    !no_truncate | (a.requested <= room)
 }
 
 // Rule 2: an entry, with its local offset, matches a request.
@@ -145,8 +147,8 @@ pub fn is_match(e: Entry, local: u32, a: Arrival) -> bool
     let bits = bits_agree(e.matchbits, e.ignorebits, a.matchbits);
     let nid = entry::same_or_any(e.nid, a.nid);
     let pid = entry::same_or_any(e.pid, a.pid);
-    let uncut = is_untruncated(e, local, a);
-    bits & nid & pid & uncut
+    let length = allows_length(e, local, a);
+    bits & nid & pid & length
 }
 
 // Rule 4: an entry's options enable a kind.
@@ -159,7 +161,7 @@ pub fn is_enabled(options: u32, kind: Kind) -> bool
     }
 }
 
-// Rule 4: the verdict on the chosen entry, the user's identity first.
+// Rule 4: the verdict of an entry, by its uid first and then by its kinds.
 pub fn verdict_on(e: Entry, a: Arrival) -> Verdict
     ensures { λ r. ⌜ r ≡ verdictOn e a ⌝ }
 {
@@ -167,15 +169,26 @@ pub fn verdict_on(e: Entry, a: Arrival) -> Verdict
     let permitted = entry::same_or_any(e.uid, a.uid);
     let enabled = is_enabled(e.options, kind);
     if !permitted {
-        return Verdict::Permission;
+        return Verdict::PermissionViolation;
     }
     if !enabled {
-        return Verdict::Operation;
+        return Verdict::OperationViolation;
     }
     Verdict::Granted
 }
 
-// Rule 5, the accepted length: the smaller of requested and available.
+// The verdict lets the request in.
+pub fn is_granted(v: Verdict) -> bool
+    ensures { λ r. ⌜ r ≡ isGranted v ⌝ }
+{
+    match v {
+        Verdict::Granted => true,
+        Verdict::PermissionViolation => false,
+        Verdict::OperationViolation => false,
+    }
+}
+
+// Rule 5, the accepted length (mlength): the smaller of requested (rlength) and available.
 pub fn accepted_length(e: Entry, local: u32, a: Arrival) -> u32
     ensures { λ r. ⌜ r ≡ accepted e local a ⌝ }
 {
@@ -214,8 +227,8 @@ pub fn local_after(e: Entry, local: u32, a: Arrival) -> u64
     }
 }
 
-// Rule 7: the entry unlinks.
-pub fn is_unlinked(e: Entry, local: u32, a: Arrival) -> bool
+// Rule 7: this request unlinks the entry.
+pub fn auto_unlinks(e: Entry, local: u32, a: Arrival) -> bool
     ensures { λ r. ⌜ r ≡ unlinks e local a ⌝ }
 {
     let once = entry::is_set(e.options, entry::USE_ONCE);

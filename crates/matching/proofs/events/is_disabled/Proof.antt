@@ -39,19 +39,29 @@ enum-told-4 c = search needs
 
 returns : tie.Need-returns
 unfolding disabled
-returns c = let g = c .before .before in rw (← g .group-of .ensures, c .enum-told .given .1, g .before .before .before .before .before .is-set .ensures, g .before .before .before .before .is-set2 .ensures, g .before .before .before .before .before .before .is-ok .ensures)
+returns c =
+    let g = c .before .before in
+    let s = g .before .before .before .before in
+    rw (← g .group-of .ensures, c .enum-told .given .1, s .before .is-set .ensures, s .is-set2 .ensures, s .before .before .is-ok .ensures)
 
 returns-2 : tie.Need-returns-2
 unfolding disabled
-returns-2 c = let g = c .before .before in rw (← g .group-of .ensures, c .enum-told2 .given .1, g .before .before .before .before .is-set2 .ensures, g .before .before .before .is-set3 .ensures)
+returns-2 c =
+    let g = c .before .before in
+    let s = g .before .before .before .before in
+    rw (← g .group-of .ensures, c .enum-told2 .given .1, s .is-set2 .ensures, g .before .before .before .is-set3 .ensures)
 
 returns-3 : tie.Need-returns-3
 unfolding disabled
-returns-3 c = let g = c .before .before in rw (← g .group-of .ensures, c .enum-told3 .given .1, g .before .before .is-set4 .ensures)
+returns-3 c =
+    let g = c .before .before in
+    rw (← g .group-of .ensures, c .enum-told3 .given .1, g .before .before .is-set4 .ensures)
 
 returns-4 : tie.Need-returns-4
 unfolding disabled
-returns-4 c = let g = c .before .before in rw (← g .group-of .ensures, c .enum-told4 .given .1, g .before .is-set5 .ensures)
+returns-4 c =
+    let g = c .before .before in
+    rw (← g .group-of .ensures, c .enum-told4 .given .1, g .before .is-set5 .ensures)
 
 pub is-disabled-spec : {M : Type 1} → statement M
 is-disabled-spec =

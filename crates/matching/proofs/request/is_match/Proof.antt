@@ -13,12 +13,14 @@ same-or-any-requires c κs = search needs
 same-or-any-requires-2 : tie.Need-same-or-any-requires-2
 same-or-any-requires-2 c κs = search needs
 
-is-untruncated-requires : tie.Need-is-untruncated-requires
-is-untruncated-requires c κs = search needs
+allows-length-requires : tie.Need-allows-length-requires
+allows-length-requires c κs = search needs
 
 returns : tie.Need-returns
 unfolding matches
-returns c = rw (c .before .before .before .bits-agree .ensures, c .before .before .same-or-any .ensures, c .before .same-or-any2 .ensures, c .is-untruncated .ensures)
+returns c =
+    let n = c .before .before in
+    rw (n .before .bits-agree .ensures, n .same-or-any .ensures, c .before .same-or-any2 .ensures, c .allows-length .ensures)
 
 pub is-match-spec : {M : Type 1} → statement M
 is-match-spec =
@@ -27,5 +29,5 @@ is-match-spec =
     bits-agree-requires
     same-or-any-requires
     same-or-any-requires-2
-    is-untruncated-requires
+    allows-length-requires
     returns)
