@@ -50,30 +50,24 @@ returns-4 c =
     let l = k .before .before in
     rw (portal-good (l .before .before), list-good l, counter-good k, le-ltb _ _ (c .if4 .taken))
 
-cast-if5 : tie.Need-cast-if5
-cast-if5 c = search needs
-
-cast-if5-2 : tie.Need-cast-if5-2
-cast-if5-2 c = search needs
-
-add-if5 : tie.Need-add-if5
-add-if5 c = search needs
+exact-sum-requires : tie.Need-exact-sum-requires
+exact-sum-requires c κs = search needs
 
 returns-5 : tie.Need-returns-5
 unfolding badEntryArgument
 returns-5 c =
-    let o = c .before .before .before in
+    let o = c .before .before in
     let k = o .before .before in
     let l = k .before .before in
-    rw (portal-good (l .before .before), list-good l, counter-good k, options-good o, lt-leb _ _ (c .if5 .taken))
+    rw (portal-good (l .before .before), list-good l, counter-good k, options-good o, ← c .before .exact-sum .ensures, lt-leb _ _ (c .if5 .taken))
 
 returns-6 : tie.Need-returns-6
 unfolding badEntryArgument
 returns-6 c =
-    let o = c .before .before .before in
+    let o = c .before .before in
     let k = o .before .before in
     let l = k .before .before in
-    rw (portal-good (l .before .before), list-good l, counter-good k, options-good o, le-leb _ _ (c .if5 .left))
+    rw (portal-good (l .before .before), list-good l, counter-good k, options-good o, ← c .before .exact-sum .ensures, le-leb _ _ (c .if5 .left))
 
 pub bad-entry-argument-spec : {M : Type 1} → statement M
 bad-entry-argument-spec =
@@ -84,8 +78,6 @@ bad-entry-argument-spec =
     is-counter-or-none-requires
     returns-3
     returns-4
-    cast-if5
-    cast-if5-2
-    add-if5
+    exact-sum-requires
     returns-5
     returns-6)

@@ -10,21 +10,20 @@ is-set-requires c κs = search needs
 accepted-length-requires : tie.Need-accepted-length-requires
 accepted-length-requires c κs = search needs
 
-cast-result : tie.Need-cast-result
-cast-result c = search needs
-
-add-result : tie.Need-add-result
-add-result c = search needs
+exact-sum-requires : tie.Need-exact-sum-requires
+exact-sum-requires c κs = search needs
 
 returns : tie.Need-returns
 unfolding localAfter
-returns c = rw (← c .before .before .is-set .ensures, c .if1 .taken, c .before .accepted-length .ensures)
+returns c =
+    let s = c .before in
+    let l = s .before in
+    rw (← l .before .is-set .ensures, c .if1 .taken, s .exact-sum .ensures, l .accepted-length .ensures)
 
 returns-2 : tie.Need-returns-2
 unfolding localAfter
-returns-2 c = rw (← c .before .before .is-set .ensures, c .if1 .left)
+returns-2 c = rw (← c .before .before .before .is-set .ensures, c .if1 .left)
 
 pub local-after-spec : {M : Type 1} → statement M
 local-after-spec =
-    tie.close
-    (tie.spec is-set-requires accepted-length-requires cast-result add-result returns returns-2)
+    tie.close (tie.spec is-set-requires accepted-length-requires exact-sum-requires returns returns-2)
