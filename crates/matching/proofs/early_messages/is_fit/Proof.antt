@@ -1,8 +1,8 @@
 -- The callees put together.
 use Rattle.matching.specs.EarlyMessages.{fits}
 use borrow.Author.Needs.{needs}
-use Rattle.matching.proofs.early.is_fit.Statement.{statement}
-use Rattle.matching.proofs.early.is_fit.Tie as tie
+use Rattle.matching.proofs.early_messages.is_fit.Statement.{statement}
+use Rattle.matching.proofs.early_messages.is_fit.Tie as tie
 
 is-match-requires : tie.Need-is-match-requires
 is-match-requires c κs = search needs
