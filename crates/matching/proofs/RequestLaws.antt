@@ -1,13 +1,12 @@
 -- Laws of the rules that the layers above cite, each once and over the definitions.
-use mathlib.Core.Path.{_≡_, refl, ap, ap₂, sym, _∙_}
-use mathlib.Core.Bool.{Bool, true, false, _&&_, _||_, not, cond}
+use mathlib.Core.Path.{_≡_, refl}
+use mathlib.Core.Bool.{Bool, true, false, _||_, not, cond}
 use Prim.Native.Nat.{ℕ, _+_, _-_, _≤_, min}
 use native.Mathlib.Omega.{arith}
 use borrow.Author.Tests.{le-leb}
-use lib.Dec.{leb}
 use Rattle.matching.specs.Bits.{isSet}
-use Rattle.matching.specs.Entry.{MANAGE-LOCAL, NO-TRUNCATE, sameOrAny}
-use Rattle.matching.specs.Request.{offsetUsed, available, bitsAgree, allowsLength, matches, accepted, place, localAfter}
+use Rattle.matching.specs.Entry.{MANAGE-LOCAL, NO-TRUNCATE}
+use Rattle.matching.specs.Request.{offsetUsed, available, allowsLength, matches, accepted, place, localAfter}
 use Rattle.matching.specs.declared.layout.Entry.{Entry}
 use Rattle.matching.specs.declared.request.Arrival.{Arrival}
 
