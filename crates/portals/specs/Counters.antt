@@ -1,0 +1,132 @@
+-- Document 01, "Events", its last paragraph: counting events and status registers.
+use mathlib.Core.Bool.{Bool, true, false, _&&_, _||_, not, cond}
+use mathlib.Core.List.{List, [], _∷_}
+use mathlib.Core.Option.{Option, none, some}
+use Prim.Native.Nat.{ℕ, zero, suc, _+_, _^_, _%_}
+use lib.Dec.{eqb, leb, ltb}
+use lib.ListN.{length, set, getD}
+use Rattle.matching.specs.Refusals.{firstBad, noneBad}
+use Rattle.matching.specs.Entry.{isCounter}
+use Rattle.matching.specs.declared.refusals.Refusal.{Refusal}
+use Rattle.matching.specs.declared.refusals.Refusal.the-variants as Refusal
+use Rattle.matching.specs.declared.refusals.BadArgument.{BadArgument}
+use Rattle.matching.specs.declared.refusals.BadArgument.the-variants as BadArgument
+use Rattle.portals.specs.Lists.{every}
+use Rattle.portals.specs.View.{View, withCounters}
+use Rattle.portals.specs.Refusals.{Condition}
+use Rattle.portals.specs.Answers.{Answer, DONE, COUNTER, REGISTER, READY, NOT-READY, REACHED, NONE-REACHED}
+use Rattle.portals.specs.Outcome.{Outcome, guarded, guardedRead}
+use Rattle.portals.specs.declared.layout.Counter.{Counter}
+use Rattle.portals.specs.declared.layout.Registers.{Registers}
+use Rattle.portals.specs.declared.layout.CounterChange.{CounterChange}
+use Rattle.portals.specs.declared.layout.CounterTest.{CounterTest}
+
+-- "modulo 2^64"
+abbrev pub plus64 : ℕ → ℕ → ℕ
+plus64 a b = (a + b) % 2 ^ 64
+
+-- counter k; all zero where there is none
+abbrev pub counterAt : List Counter → ℕ → Counter
+counterAt counters k = getD counters k (record { success = 0; failure = 0 })
+
+abbrev pub increased : Counter → ℕ → ℕ → Counter
+increased c success failure = record { success = plus64 (c .success) success; failure = plus64 (c .failure) failure }
+
+-- an entry's counter grows by an amount "in the success field"; none (255) counts nothing
+unfoldable pub counted : List Counter → ℕ → ℕ → List Counter
+counted counters k amount = cond (isCounter k) (set counters k (increased (counterAt counters k) amount 0)) counters
+
+-- ## The counter calls
+
+-- "another counter than 0 to 15 is ARG_INVALID"
+abbrev pub badCounterArgument : ℕ → BadArgument
+badCounterArgument k = firstBad (record { passed = isCounter k; argument = BadArgument.Counter } ∷ [])
+
+abbrev pub counterTests : ℕ → List Condition
+counterTests k = record { passed = noneBad (badCounterArgument k); refusal = Refusal.ArgInvalid } ∷ []
+
+abbrev pub counterDone : View → ℕ → Counter → Outcome View Unit
+counterDone v k c = record { answer = DONE; state = withCounters v (set (v .counters) k c); buffer = tt }
+
+-- "Set"
+unfoldable pub setCounter : View → CounterChange → Outcome View Unit
+setCounter v x =
+    guarded v tt (counterTests (x .counter))
+    (counterDone v (x .counter) (record { success = x .success; failure = x .failure }))
+
+-- "increment (both fields, modulo 2^64)"
+unfoldable pub increment : View → CounterChange → Outcome View Unit
+increment v x =
+    guarded v tt (counterTests (x .counter))
+    (counterDone v (x .counter) (increased (counterAt (v .counters) (x .counter)) (x .success) (x .failure)))
+
+-- "read"
+unfoldable pub readCounter : View → ℕ → Answer
+readCounter v k =
+    guardedRead (counterTests k) (COUNTER (counterAt (v .counters) k .success) (counterAt (v .counters) k .failure))
+
+-- "success at least the test"
+abbrev pub hasReached : Counter → ℕ → Bool
+hasReached c test = leb test (c .success)
+
+-- "Ready: success at least the test, or failure not 0."
+abbrev pub isReady : Counter → ℕ → Bool
+isReady c test = hasReached c test || not (eqb (c .failure) 0)
+
+unfoldable pub ready : View → CounterTest → Answer
+ready v x =
+    guardedRead (counterTests (x .counter)) (cond (isReady (counterAt (v .counters) (x .counter)) (x .test)) READY NOT-READY)
+
+-- ## Poll
+
+-- "Poll, over a list of counters and tests of equal length (else ARG_INVALID)": every counter is tested, whatever is reached
+-- before it, and before the lengths: decisions 5 and 32
+abbrev pub badPollArgument : List ℕ → List ℕ → BadArgument
+badPollArgument ks tests =
+    firstBad
+    (record { passed = every isCounter ks; argument = BadArgument.Counter }
+    ∷ record { passed = eqb (length ks) (length tests); argument = BadArgument.ListLength }
+    ∷ [])
+
+-- "the lowest place whose success has reached its test": decision 5; the lists begin at place i
+abbrev pub reachedFrom : List Counter → ℕ → List ℕ → List ℕ → Option ℕ
+reachedFrom counters i [] tests = none
+reachedFrom counters i (k ∷ ks) [] = none
+reachedFrom counters i (k ∷ ks) (test ∷ tests) =
+    cond (hasReached (counterAt counters k) test) (some i) (reachedFrom counters (suc i) ks tests)
+
+-- "or NONE_REACHED"
+abbrev pub reachedAnswer : Option ℕ → Answer
+reachedAnswer none = NONE-REACHED
+reachedAnswer (some i) = REACHED i
+
+unfoldable pub poll : View → List ℕ → List ℕ → Answer
+poll v ks tests =
+    guardedRead
+    (record { passed = noneBad (badPollArgument ks tests); refusal = Refusal.ArgInvalid } ∷ [])
+    (reachedAnswer (reachedFrom (v .counters) 0 ks tests))
+
+-- ## The registers
+
+-- "A register (0 drop, 1 permission, 2 operation) can be read; another is ARG_INVALID."
+abbrev pub badRegisterArgument : ℕ → BadArgument
+badRegisterArgument k = firstBad (record { passed = leb k 2; argument = BadArgument.Register } ∷ [])
+
+abbrev pub registerAt : Registers → ℕ → ℕ
+registerAt r k = cond (eqb k 0) (r .dropped) (cond (eqb k 1) (r .permission) (r .operation))
+
+unfoldable pub readRegister : View → ℕ → Answer
+readRegister v k =
+    guardedRead
+    (record { passed = noneBad (badRegisterArgument k); refusal = Refusal.ArgInvalid } ∷ [])
+    (REGISTER (registerAt (v .registers) k))
+
+-- "adds 1, modulo 2^64, to its own register and changes nothing else"
+abbrev pub oneDropped : Registers → Registers
+oneDropped r = record { dropped = plus64 (r .dropped) 1; permission = r .permission; operation = r .operation }
+
+abbrev pub onePermission : Registers → Registers
+onePermission r = record { dropped = r .dropped; permission = plus64 (r .permission) 1; operation = r .operation }
+
+abbrev pub oneOperation : Registers → Registers
+oneOperation r = record { dropped = r .dropped; permission = r .permission; operation = plus64 (r .operation) 1 }

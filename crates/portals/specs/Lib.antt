@@ -1,0 +1,14 @@
+pub mod Lists
+pub mod Sizes
+pub mod Kinds
+pub mod View
+pub mod Refusals
+pub mod Answers
+pub mod Outcome
+pub mod Making
+pub mod Events
+pub mod Counters
+pub mod Request
+pub mod EarlyMessages
+pub mod Promises
+pub mod BenchCases

@@ -1,0 +1,132 @@
+-- What a target holds, as plain lists and numbers. Which slot an entry, a header or an event is kept in is left free: it is not seen here.
+use mathlib.Core.Bool.{Bool, not}
+use mathlib.Core.List.{List, []}
+use Prim.Native.Nat.{ℕ, _%_}
+use lib.Dec.{eqb}
+use lib.ListN.{take, replicate}
+use Rattle.matching.specs.declared.layout.Entry.{Entry}
+use Rattle.portals.specs.Lists.{ringOf}
+use Rattle.portals.specs.Sizes.{EVENTS, COUNTERS}
+use Rattle.portals.specs.declared.layout.HeldEntry.{HeldEntry}
+use Rattle.portals.specs.declared.layout.Header.{Header}
+use Rattle.portals.specs.declared.layout.Event.{Event}
+use Rattle.portals.specs.declared.layout.Queue.{Queue}
+use Rattle.portals.specs.declared.layout.Counter.{Counter}
+use Rattle.portals.specs.declared.layout.Registers.{Registers}
+use Rattle.portals.specs.declared.layout.Target.{Target}
+
+-- the event queue: its events, the oldest first, and the mark that events were lost since the last one was queued (not 0: some were)
+pub record EventQueue : Type 0 where
+  pub events : List Event
+  pub lost : ℕ
+
+pub record View : Type 0 where
+  -- the memory's length
+  pub size : ℕ
+  -- the last handle given
+  pub last : ℕ
+  -- linked and retired, in the order in which they were linked
+  pub entries : List HeldEntry
+  -- the waiting headers of all portals, in the order of their arrival; each names its entry by handle
+  pub headers : List Header
+  pub queue : EventQueue
+  pub counters : List Counter
+  pub registers : Registers
+
+-- an entry is retired: unlinked, with messages waiting
+abbrev pub isRetired : HeldEntry → Bool
+isRetired x = not (eqb (x .retired) 0)
+
+abbrev pub queueOf : Queue → EventQueue
+queueOf q = record { events = ringOf (q .head % EVENTS) (q .count) (q .slots); lost = q .lost }
+
+abbrev pub viewOf : Target → View
+viewOf t = record {
+  size = t .size;
+  last = t .last;
+  entries = take (t .entries .count) (t .entries .slots);
+  headers = take (t .unexpected .count) (t .unexpected .slots);
+  queue = queueOf (t .queue);
+  counters = t .counters .slots;
+  registers = t .registers;
+}
+
+-- "A new target is empty, all numbers 0."
+abbrev pub emptyView : ℕ → View
+emptyView size = record {
+  size = size;
+  last = 0;
+  entries = [];
+  headers = [];
+  queue = record { events = []; lost = 0 };
+  counters = replicate COUNTERS (record { success = 0; failure = 0 });
+  registers = record { dropped = 0; permission = 0; operation = 0 };
+}
+
+-- ## A view with one part changed
+
+abbrev pub withEntries : View → List HeldEntry → View
+withEntries v entries = record {
+  size = v .size;
+  last = v .last;
+  entries = entries;
+  headers = v .headers;
+  queue = v .queue;
+  counters = v .counters;
+  registers = v .registers;
+}
+
+abbrev pub withHeaders : View → List Header → View
+withHeaders v headers = record {
+  size = v .size;
+  last = v .last;
+  entries = v .entries;
+  headers = headers;
+  queue = v .queue;
+  counters = v .counters;
+  registers = v .registers;
+}
+
+abbrev pub withQueue : View → EventQueue → View
+withQueue v queue = record {
+  size = v .size;
+  last = v .last;
+  entries = v .entries;
+  headers = v .headers;
+  queue = queue;
+  counters = v .counters;
+  registers = v .registers;
+}
+
+abbrev pub withCounters : View → List Counter → View
+withCounters v counters = record {
+  size = v .size;
+  last = v .last;
+  entries = v .entries;
+  headers = v .headers;
+  queue = v .queue;
+  counters = counters;
+  registers = v .registers;
+}
+
+abbrev pub withRegisters : View → Registers → View
+withRegisters v registers = record {
+  size = v .size;
+  last = v .last;
+  entries = v .entries;
+  headers = v .headers;
+  queue = v .queue;
+  counters = v .counters;
+  registers = registers;
+}
+
+abbrev pub withLast : View → ℕ → View
+withLast v last = record {
+  size = v .size;
+  last = last;
+  entries = v .entries;
+  headers = v .headers;
+  queue = v .queue;
+  counters = v .counters;
+  registers = v .registers;
+}

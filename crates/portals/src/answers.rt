@@ -1,0 +1,98 @@
+// The answers of the calls: an enum for each, and beside it the state that the call leaves.
+use crate::layout::Counter;
+use crate::layout::Event;
+use crate::layout::Target;
+use matching::refusals::Refusal;
+
+pub enum NewAnswer {
+    Made,
+    Refused(Refusal),
+}
+
+pub struct NewDone {
+    pub answer: NewAnswer,
+    pub target: Target,
+}
+
+pub enum AppendAnswer {
+    // With the new entry's handle.
+    Linked(u32),
+    Taken,
+    Refused(Refusal),
+}
+
+pub struct AppendDone {
+    pub answer: AppendAnswer,
+    pub target: Target,
+}
+
+// Unlink, counter set and counter increment.
+pub enum Confirmation {
+    Done,
+    Refused(Refusal),
+}
+
+pub struct Confirmed {
+    pub answer: Confirmation,
+    pub target: Target,
+}
+
+pub enum SearchAnswer {
+    // How many headers it found.
+    Searched(usize),
+    Refused(Refusal),
+}
+
+pub struct SearchDone {
+    pub answer: SearchAnswer,
+    pub target: Target,
+}
+
+// Put and get.
+pub enum RequestAnswer {
+    Priority { length: u32, offset: u64, ack: u16 },
+    Overflow { length: u32, offset: u64, ack: u16 },
+    Dropped(u16),
+    PermissionViolation(u16),
+    OperationViolation(u16),
+    Refused(Refusal),
+}
+
+pub struct RequestDone {
+    pub answer: RequestAnswer,
+    pub target: Target,
+}
+
+pub enum EventAnswer {
+    Oldest(Event),
+    Nothing,
+    Refused(Refusal),
+}
+
+pub struct EventDone {
+    pub answer: EventAnswer,
+    pub target: Target,
+}
+
+pub enum CounterAnswer {
+    Value(Counter),
+    Refused(Refusal),
+}
+
+pub enum RegisterAnswer {
+    Value(u64),
+    Refused(Refusal),
+}
+
+pub enum ReadyAnswer {
+    Ready,
+    NotReady,
+    Refused(Refusal),
+}
+
+pub enum PollAnswer {
+    // The place in the list of counters.
+    Reached(usize),
+    NoneReached,
+    Refused(Refusal),
+}

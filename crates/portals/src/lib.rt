@@ -1,0 +1,5 @@
+// Document 01's target state: what a target holds, when it is sound, and what every call on it answers and leaves.
+pub mod answers;
+pub mod bench;
+pub mod layout;
+pub mod requests;
