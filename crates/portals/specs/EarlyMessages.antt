@@ -24,7 +24,6 @@ use Rattle.portals.specs.Answers.{LINKED, TAKEN, DONE, SEARCHED}
 use Rattle.portals.specs.Outcome.{Outcome, guarded}
 use Rattle.portals.specs.Events.{Issued, linkEvent, overflowEvent, autoFreeEvent, searchEvent, noMatchEvent, post, postAll}
 use Rattle.portals.specs.Counters.{counted}
-use Rattle.portals.specs.Request.{without}
 use Rattle.portals.specs.declared.layout.HeldEntry.{HeldEntry}
 use Rattle.portals.specs.declared.layout.Header.{Header}
 
@@ -158,7 +157,7 @@ unlinkTests v handle =
 unfoldable pub unlink : View → ℕ → Outcome View Unit
 unlink v handle =
     guarded v tt (unlinkTests v handle)
-    (record { answer = DONE; state = withEntries v (without handle (v .entries)); buffer = tt })
+    (record { answer = DONE; state = withEntries v (withoutFirst (isLinkedAs handle) (v .entries)); buffer = tt })
 
 -- ## Search
 

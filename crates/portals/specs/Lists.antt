@@ -41,6 +41,12 @@ module _ {A : Type 0} where
   firstFrom p k [] = none
   firstFrom p k (x ∷ l) = cond (p x) (some k) (firstFrom p (suc k) l)
 
+  -- the list without the element at a place
+  abbrev pub removeAt : ℕ → List A → List A
+  removeAt k [] = []
+  removeAt zero (x ∷ l) = l
+  removeAt (suc k) (x ∷ l) = x ∷ removeAt k l
+
   abbrev pub isEmpty : List A → Bool
   isEmpty [] = true
   isEmpty (x ∷ l) = false

@@ -18,11 +18,11 @@ use Rattle.matching.specs.declared.request.Verdict.{Verdict}
 use Rattle.matching.specs.declared.request.Verdict.the-variants as Verdict
 use Rattle.matching.specs.declared.refusals.Refusal.{Refusal}
 use Rattle.matching.specs.declared.refusals.Refusal.the-variants as Refusal
-use Rattle.portals.specs.Lists.{selectNot, firstFrom, overwritten}
+use Rattle.portals.specs.Lists.{firstFrom, removeAt, overwritten}
 use Rattle.portals.specs.Sizes.{HEADERS}
 use Rattle.portals.specs.Kinds.{kindNumber}
 use Rattle.portals.specs.View.{View, isRetired, withEntries, withHeaders, withQueue, withCounters, withRegisters}
-use Rattle.portals.specs.Refusals.{hasHandle, Condition}
+use Rattle.portals.specs.Refusals.{Condition}
 use Rattle.portals.specs.Answers.{Answer, PRIORITY, OVERFLOW, DROPPED, PERM, OP}
 use Rattle.portals.specs.Outcome.{Outcome, guarded}
 use Rattle.portals.specs.Events.{Issued, arrivalEvent, autoUnlinkEvent, postAll}
@@ -140,13 +140,10 @@ entryAfter x a = record {
 abbrev pub isFreed : HeldEntry → Arrival → Bool
 isFreed x a = unlinks (x .entry) (x .local) a && not (takesHeaders (x .entry))
 
-abbrev pub without : ℕ → List HeldEntry → List HeldEntry
-without handle entries = selectNot (hasHandle handle) entries
-
 abbrev pub entriesAfter : List HeldEntry → ℕ → Arrival → List HeldEntry
 entriesAfter entries k a =
     cond (isFreed (entryAt entries k) a)
-    (without (entryAt entries k .handle) entries)
+    (removeAt k entries)
     (set entries k (entryAfter (entryAt entries k) a))
 
 -- rule 6: "Overflow: a header joins the end of the portal's waiting ones, unless disabled."

@@ -1,0 +1,101 @@
+-- Soundness is kept by a change of one part.
+use mathlib.Core.Path.{_≡_, refl, sym, _∙_}
+use mathlib.Core.Bool.{Bool, true, false, _&&_, _||_, not, cond}
+use mathlib.Core.List.{List, [], _∷_, _++_}
+use Prim.Native.Nat.{ℕ, _+_, _≤_, _<_}
+use native.Mathlib.Omega.{arith}
+use borrow.Author.Tests.{ltb-true}
+use lib.Dec.{ltb}
+use lib.ListN.{length}
+use Rattle.portals.specs.Lists.{every}
+use Rattle.portals.specs.Sizes.{SLOTS, HEADERS, EVENTS}
+use Rattle.portals.specs.View.{View, EventQueue, withEntries, withHeaders, withQueue, withCounters, withRegisters}
+use Rattle.portals.specs.Refusals.{distinct, entrySound, headerSound, keepsSlot}
+use Rattle.portals.specs.Events.{Issued, withGap, gapOf, isDropped, postBy, post, postAll, readEvent}
+use Rattle.portals.specs.declared.layout.HeldEntry.{HeldEntry}
+use Rattle.portals.specs.declared.layout.Header.{Header}
+use Rattle.portals.specs.declared.layout.Event.{Event}
+use Rattle.portals.specs.declared.layout.Counter.{Counter}
+use Rattle.portals.specs.declared.layout.Registers.{Registers}
+use Rattle.portals.proofs.ListLaws.{join-fits}
+use Rattle.portals.proofs.SoundLaws.{Sound}
+
+-- ## The parts that soundness does not read, or of which it only asks the length
+
+pub counters-kept : (v : View) (counters : List Counter) → Sound v → Sound (withCounters v counters)
+counters-kept v counters s = record {
+  size = s .size;
+  slots = s .slots;
+  waiting = s .waiting;
+  queued = s .queued;
+  handles = s .handles;
+  entries = s .entries;
+  headers = s .headers;
+  retired = s .retired;
+}
+
+pub registers-kept : (v : View) (registers : Registers) → Sound v → Sound (withRegisters v registers)
+registers-kept v registers s = record {
+  size = s .size;
+  slots = s .slots;
+  waiting = s .waiting;
+  queued = s .queued;
+  handles = s .handles;
+  entries = s .entries;
+  headers = s .headers;
+  retired = s .retired;
+}
+
+pub queue-kept : (v : View) (queue : EventQueue) → Sound v → length (queue .events) ≤ EVENTS → Sound (withQueue v queue)
+queue-kept v queue s room = record {
+  size = s .size;
+  slots = s .slots;
+  waiting = s .waiting;
+  queued = room;
+  handles = s .handles;
+  entries = s .entries;
+  headers = s .headers;
+  retired = s .retired;
+}
+
+-- ## Events
+
+post-room : (dropped room : Bool) (q : EventQueue) (e : Event) → ltb (length (q .events)) EVENTS ≡ room → length (q .events) ≤ EVENTS
+    → length (postBy dropped room q e .events) ≤ EVENTS
+post-room true room q e h n = n
+post-room false true q e h n =
+    join-fits (q .events) (withGap e (gapOf (q .lost))) EVENTS (ltb-true (length (q .events)) EVENTS h)
+post-room false false q e h n = n
+
+-- a queue that is posted to stays within its places
+pub post-fits : (q : EventQueue) (i : Issued) → length (q .events) ≤ EVENTS → length (post q i .events) ≤ EVENTS
+unfolding post
+post-fits q i n = post-room (isDropped i) (ltb (length (q .events)) EVENTS) q (i .event) refl n
+
+pub post-all-fits : (q : EventQueue) (is : List Issued) → length (q .events) ≤ EVENTS → length (postAll q is .events) ≤ EVENTS
+post-all-fits q [] n = n
+post-all-fits q (i ∷ is) n = post-all-fits (post q i) is (post-fits q i n)
+
+-- ## Entries and headers
+
+-- what soundness asks of the entries and the headers of a view with this size and this last handle
+pub record Held (size last : ℕ) (entries : List HeldEntry) (headers : List Header) : Type 0 where
+  pub slots : length entries ≤ SLOTS
+  pub waiting : length headers ≤ HEADERS
+  pub handles : distinct entries ≡ true
+  pub entriesSound : every (entrySound size last) entries ≡ true
+  pub headersSound : every (headerSound entries) headers ≡ true
+  pub retired : every (keepsSlot headers) entries ≡ true
+
+pub held-kept : (v : View) (entries : List HeldEntry) (headers : List Header) → Sound v → Held (v .size) (v .last) entries headers
+    → Sound (withHeaders (withEntries v entries) headers)
+held-kept v entries headers s h = record {
+  size = s .size;
+  slots = h .slots;
+  waiting = h .waiting;
+  queued = s .queued;
+  handles = h .handles;
+  entries = h .entriesSound;
+  headers = h .headersSound;
+  retired = h .retired;
+}

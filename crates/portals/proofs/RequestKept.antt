@@ -1,0 +1,317 @@
+-- A request leaves a sound state sound.
+use mathlib.Core.Path.{_≡_, refl, sym, _∙_, subst}
+use mathlib.Core.Bool.{Bool, true, false, _&&_, _||_, not, cond, true≢false, false≢true}
+use mathlib.Core.List.{List, [], _∷_, _++_}
+use mathlib.Core.Option.{Option, none, some}
+use Prim.Native.Nat.{ℕ, _+_, _≤_, _<_}
+use native.Mathlib.Omega.{arith}
+use borrow.Author.Tests.{not-true, ltb-true, leb-true, le-leb, eqb-true, eq-eqb}
+use lib.Dec.{eqb, leb, ltb}
+use lib.ListN.{length, set, getD, length-set}
+use Rattle.matching.specs.Bits.{isSet}
+use Rattle.matching.specs.Refusals.{noneBad}
+use Rattle.matching.specs.Entry.{ANY, MANAGE-LOCAL, badEntryArgument}
+use Rattle.matching.specs.Request.{badRequestArgument, arrivalOf, matches, verdictOn, accepted, place, localAfter, unlinks}
+use Rattle.matching.specs.EarlyMessages.{takesHeaders}
+use Rattle.matching.specs.declared.layout.Request.{Request}
+use Rattle.matching.specs.declared.refusals.BadArgument.{BadArgument}
+use Rattle.matching.specs.declared.refusals.BadArgument.the-variants as BadArgument
+use Rattle.matching.specs.declared.request.Kind.{Kind}
+use Rattle.matching.specs.declared.request.Kind.the-variants as Kind
+use Rattle.matching.specs.declared.request.Arrival.{Arrival}
+use Rattle.matching.specs.declared.request.Verdict.{Verdict}
+use Rattle.matching.specs.declared.request.Verdict.the-variants as Verdict
+use Rattle.matching.proofs.RequestLaws.{accepted-requested, place-start, place-end, local-stays, local-length}
+use Rattle.portals.specs.Lists.{every, any, firstFrom, removeAt}
+use Rattle.portals.specs.Sizes.{MEMORY, SLOTS, HEADERS, EVENTS}
+use Rattle.portals.specs.View.{View, isRetired, withEntries, withHeaders, withQueue, withCounters, withRegisters}
+use Rattle.portals.specs.Refusals.{handleGiven, localKept, entrySound, waitsIn, holds, bytesInside, lengthsKept, headerSound, keepsSlot}
+use Rattle.portals.specs.Outcome.{Outcome, refusal}
+use Rattle.portals.specs.Events.{postAll}
+use Rattle.portals.specs.Request.{isIn, isCandidate, orElse, choose, noEntry, entryAt, hasRoom, decideBy, decideAt, decideOn, decide, message, entryAfter, entriesAfter, headersAfter, requestEvents, delivered, requestState, requestTests, put, get}
+use Rattle.portals.specs.declared.layout.HeldEntry.{HeldEntry}
+use Rattle.portals.specs.declared.layout.Header.{Header}
+use Rattle.portals.specs.declared.requests.Choice.{Choice}
+use Rattle.portals.specs.declared.requests.Choice.the-variants as Choice
+use Rattle.portals.specs.declared.requests.Decision.{Decision}
+use Rattle.portals.specs.declared.requests.Decision.the-variants as Decision
+use Rattle.portals.proofs.ListLaws.{both, joined, or-left, or-right, or-map, or-other, cond-cases, every-at, every-set, every-join, every-imply, part-removeAt, part-length, part-every, any-at, any-set, any-removeAt, any-join, any-last, join-fits, get-set, Found, first-cases}
+use Rattle.portals.proofs.GuardLaws.{guard-cases}
+use Rattle.portals.proofs.SoundLaws.{Sound, distinct-part, distinct-set}
+use Rattle.portals.proofs.KeptLaws.{Held, held-kept, counters-kept, registers-kept, queue-kept, post-all-fits}
+
+-- ## What a decision to deliver says of the entry at its place
+
+pub record Chosen (entries : List HeldEntry) (headers : List Header) (portal : ℕ) (a : Arrival) (k : ℕ) : Type 0 where
+  pub inside : k < length entries
+  pub linked : isRetired (entryAt entries k) ≡ false
+  pub portalOf : entryAt entries k .entry .portal ≡ portal
+  pub matching : matches (entryAt entries k .entry) (entryAt entries k .local) a ≡ true
+  pub granted : verdictOn (entryAt entries k .entry) a ≡ Verdict.Granted
+  pub room : hasRoom headers (entryAt entries k) ≡ true
+
+module _ (entries : List HeldEntry) (headers : List Header) (portal : ℕ) (a : Arrival) (P : Decision → Type 0) (drop : P Decision.Drop)
+    (permission : P Decision.DenyPermission) (operation : P Decision.DenyOperation) (deliver : (k : ℕ) → Chosen entries headers portal a k → P (Decision.Deliver k)) where
+  judged : (list k : ℕ) → Found (isCandidate portal list a) entries noEntry k → (verdict : Verdict) (room : Bool)
+      → verdictOn (entryAt entries k .entry) a ≡ verdict
+      → hasRoom headers (entryAt entries k) ≡ room
+      → P (decideBy verdict room k)
+  judged list k f Verdict.PermissionViolation room p q = permission
+  judged list k f Verdict.OperationViolation room p q = operation
+  judged list k f Verdict.Granted false p q = drop
+  judged list k f Verdict.Granted true p q =
+      let x = entryAt entries k in
+      let s = both (isIn portal list x) (matches (x .entry) (x .local) a) (f .passes) in
+      let t = both (not (isRetired x) && eqb (x .entry .portal) portal) (eqb (x .entry .list) list) (s .0) in
+      let u = both (not (isRetired x)) (eqb (x .entry .portal) portal) (t .0) in
+      deliver k
+      (record {
+        inside = f .inside;
+        linked = not-true (isRetired x) (u .0);
+        portalOf = eqb-true (x .entry .portal) portal (u .1);
+        matching = s .1;
+        granted = p;
+        room = q;
+      })
+
+  at-place : (list k : ℕ) → Found (isCandidate portal list a) entries noEntry k → P (decideAt entries headers a k)
+  at-place list k f = judged list k f (verdictOn (entryAt entries k .entry) a) (hasRoom headers (entryAt entries k)) refl refl
+
+  in-overflow : P (decideOn entries headers a (orElse Choice.Overflow (firstFrom (isCandidate portal 1 a) 0 entries) Choice.Nothing))
+  in-overflow =
+      first-cases (isCandidate portal 1 a) noEntry
+      (λ o. P (decideOn entries headers a (orElse Choice.Overflow o Choice.Nothing)))
+      0 entries drop
+      (λ at k e f. subst (λ (n : ℕ). P (decideAt entries headers a n)) (let same : k ≡ at = omega arith in same) (at-place 1 k f))
+
+  -- what holds of a drop and of both denials, and of a delivery to an entry that was chosen, holds of the decision
+  pub decide-cases : P (decide entries headers portal a)
+  unfolding decide choose
+  decide-cases =
+      first-cases (isCandidate portal 0 a) noEntry
+      (λ o. P (decideOn entries headers a (orElse Choice.Priority o (orElse Choice.Overflow (firstFrom (isCandidate portal 1 a) 0 entries) Choice.Nothing))))
+      0 entries in-overflow
+      (λ at k e f. subst (λ (n : ℕ). P (decideAt entries headers a n)) (let same : k ≡ at = omega arith in same) (at-place 0 k f))
+
+-- ## The entry after the request
+
+module _ (size last : ℕ) (x : HeldEntry) (a : Arrival) where
+  local-kept : (managed : Bool) → isSet (x .entry .options) MANAGE-LOCAL ≡ managed → localKept x ≡ true → localKept (entryAfter x a) ≡ true
+  unfolding entryAfter
+  local-kept managed m e =
+      let s = both (leb (x .local) (x .entry .length)) (isSet (x .entry .options) MANAGE-LOCAL || eqb (x .local) 0) e in
+      let n = leb-true (x .local) (x .entry .length) (s .0) in
+      joined (leb (localAfter (x .entry) (x .local) a) (x .entry .length)) (isSet (x .entry .options) MANAGE-LOCAL || eqb (localAfter (x .entry) (x .local) a) 0)
+      (le-leb (localAfter (x .entry) (x .local) a) (x .entry .length) (local-length (x .entry) (x .local) a n))
+      (by managed m (s .1))
+    where
+      by : (managed : Bool) → isSet (x .entry .options) MANAGE-LOCAL ≡ managed
+          → (isSet (x .entry .options) MANAGE-LOCAL || eqb (x .local) 0) ≡ true
+          → (isSet (x .entry .options) MANAGE-LOCAL || eqb (localAfter (x .entry) (x .local) a) 0) ≡ true
+      by true m e = or-left (isSet (x .entry .options) MANAGE-LOCAL) (eqb (localAfter (x .entry) (x .local) a) 0) m
+      by false m e = rw (local-stays (x .entry) (x .local) a m) e
+
+  -- it keeps its entry and its handle, and its offset stays in bounds
+  entry-kept : entrySound size last x ≡ true → entrySound size last (entryAfter x a) ≡ true
+  unfolding entryAfter
+  entry-kept e =
+      let s = both (handleGiven last x && noneBad (badEntryArgument (x .entry) size)) (localKept x) e in
+      joined (handleGiven last x && noneBad (badEntryArgument (x .entry) size)) (localKept (entryAfter x a)) (s .0)
+      (local-kept (isSet (x .entry .options) MANAGE-LOCAL) refl (s .1))
+
+-- its message lies inside its region
+message-held : (x : HeldEntry) (portal : ℕ) (a : Arrival) → x .entry .portal ≡ portal → takesHeaders (x .entry) ≡ true → holds (message x portal a) x ≡ true
+unfolding message
+message-held x portal a p t =
+    let e = x .entry in
+    let n = x .local in
+    rw (
+      eq-eqb (x .handle) (x .handle) refl,
+      eq-eqb (e .portal) portal p,
+      t,
+      le-leb (e .start) (place e n a) (place-start e n a),
+      le-leb (place e n a + accepted e n a) (e .start + e .length) (place-end e n a),
+    )
+
+message-lengths : (x : HeldEntry) (portal : ℕ) (a : Arrival) → a .requested ≤ MEMORY → lengthsKept (message x portal a) ≡ true
+unfolding message
+message-lengths x portal a h =
+    rw (
+      le-leb (accepted (x .entry) (x .local) a) (a .requested) (accepted-requested (x .entry) (x .local) a),
+      le-leb (a .requested) MEMORY h,
+    )
+
+holds-entry : (h : Header) (x : HeldEntry) (a : Arrival) → holds h (entryAfter x a) ≡ holds h x
+unfolding entryAfter
+holds-entry h x a = refl
+
+-- an entry that takes no headers holds none
+holds-none : (h : Header) (x : HeldEntry) → takesHeaders (x .entry) ≡ false → holds h x ≡ false
+holds-none h x t = rw t (off (waitsIn x h && eqb (x .entry .portal) (h .portal)) (bytesInside x h))
+  where
+    off : (b c : Bool) → (b && false && c) ≡ false
+    off true c = refl
+    off false c = refl
+
+-- ## The entries and headers after a delivery
+
+module _ (v : View) (sound : Sound v) (portal : ℕ) (a : Arrival) (k : ℕ) (chosen : Chosen (v .entries) (v .headers) portal a k) (size : a .requested ≤ MEMORY) where
+  abbrev it : HeldEntry
+  it = entryAt (v .entries) k
+
+  abbrev its : Header
+  its = message it portal a
+
+  -- it is freed
+  freed : takesHeaders (it .entry) ≡ false → Held (v .size) (v .last) (removeAt k (v .entries)) (v .headers)
+  freed t =
+      let p = part-removeAt k (v .entries) in
+      let l = part-length p in
+      let n = sound .slots in
+      record {
+        slots = omega arith;
+        waiting = sound .waiting;
+        handles = distinct-part p (sound .handles);
+        entriesSound = part-every (entrySound (v .size) (v .last)) p (sound .entries);
+        headersSound =
+            every-imply (headerSound (v .entries)) (headerSound (removeAt k (v .entries))) (v .headers)
+            (λ h e. rw (any-removeAt (holds h) (v .entries) k noEntry (holds-none h it t)) e)
+            (sound .headers);
+        retired = part-every (keepsSlot (v .headers)) p (sound .retired);
+      }
+
+  -- the entry in its place after the request
+  abbrev placed : List HeldEntry
+  placed = set (v .entries) k (entryAfter it a)
+
+  same-handle : entryAfter it a .handle ≡ it .handle
+  unfolding entryAfter
+  same-handle = refl
+
+  -- it stays, linked or retired, and the headers are those that wait after the request
+  stays : (headers : List Header) → length headers ≤ HEADERS
+      → every (headerSound placed) headers ≡ true
+      → ((x : HeldEntry) → keepsSlot (v .headers) x ≡ true → keepsSlot headers x ≡ true)
+      → keepsSlot headers (entryAfter it a) ≡ true
+      → Held (v .size) (v .last) placed headers
+  stays headers room inside more own =
+      let l = length-set (v .entries) k (entryAfter it a) in
+      let n = sound .slots in
+      record {
+        slots = omega arith;
+        waiting = room;
+        handles = distinct-set (v .entries) k noEntry (entryAfter it a) same-handle (sound .handles);
+        entriesSound =
+            every-set (entrySound (v .size) (v .last)) (v .entries) k (entryAfter it a) (sound .entries)
+            (entry-kept (v .size) (v .last) it a
+            (every-at (entrySound (v .size) (v .last)) (v .entries) k noEntry (chosen .inside) (sound .entries)));
+        headersSound = inside;
+        retired =
+            every-set (keepsSlot headers) (v .entries) k (entryAfter it a)
+            (every-imply (keepsSlot (v .headers)) (keepsSlot headers) (v .entries) more (sound .retired))
+            own;
+      }
+
+  -- the headers that waited before still do, in the same entries
+  waited : every (headerSound placed) (v .headers) ≡ true
+  waited =
+      every-imply (headerSound (v .entries)) (headerSound placed) (v .headers)
+      (λ h e. rw (any-set (holds h) (v .entries) k noEntry (entryAfter it a) (holds-entry h it a)) e)
+      (sound .headers)
+
+  -- its header finds a place, names it, and waits in it
+  room-left : takesHeaders (it .entry) ≡ true → length (v .headers) < HEADERS
+  room-left t =
+      ltb-true (length (v .headers)) HEADERS
+      (or-other (not (takesHeaders (it .entry))) (ltb (length (v .headers)) HEADERS)
+      (λ n. true≢false (sym t ∙ not-true (takesHeaders (it .entry)) n))
+      (chosen .room))
+
+  named : takesHeaders (it .entry) ≡ true → any (holds its) placed ≡ true
+  named t =
+      let l = length-set (v .entries) k (entryAfter it a) in
+      let n = chosen .inside in
+      any-at (holds its) placed k noEntry (omega arith)
+      (rw (get-set (v .entries) k noEntry (entryAfter it a) (chosen .inside), holds-entry its it a)
+      (message-held it portal a (chosen .portalOf) t))
+
+  waits-there : waitsIn (entryAfter it a) its ≡ true
+  unfolding entryAfter message
+  waits-there = eq-eqb (it .handle) (it .handle) refl
+
+  -- with its header
+  joins : takesHeaders (it .entry) ≡ true → Held (v .size) (v .last) placed (v .headers ++ (its ∷ []))
+  joins t =
+      stays (v .headers ++ (its ∷ []))
+      (join-fits (v .headers) its HEADERS (room-left t))
+      (every-join (headerSound placed) (v .headers) its waited
+      (joined (any (holds its) placed) (lengthsKept its) (named t) (message-lengths it portal a size)))
+      (λ x e. or-map (not (isRetired x)) (any (waitsIn x) (v .headers)) (any (waitsIn x) (v .headers ++ (its ∷ [])))
+      (any-join (waitsIn x) (v .headers) its) e)
+      (or-right (not (isRetired (entryAfter it a))) (any (waitsIn (entryAfter it a)) (v .headers ++ (its ∷ [])))
+      (any-last (waitsIn (entryAfter it a)) (v .headers) its waits-there))
+
+  still-linked : unlinks (it .entry) (it .local) a ≡ false → not (isRetired (entryAfter it a)) ≡ true
+  unfolding entryAfter
+  still-linked u = rw u
+
+  -- without one, and linked
+  remains : unlinks (it .entry) (it .local) a ≡ false → Held (v .size) (v .last) placed (v .headers)
+  remains u =
+      stays (v .headers) (sound .waiting) waited (λ x e. e)
+      (or-left (not (isRetired (entryAfter it a))) (any (waitsIn (entryAfter it a)) (v .headers)) (still-linked u))
+
+  held-by : (takes unlinked : Bool) → takesHeaders (it .entry) ≡ takes → unlinks (it .entry) (it .local) a ≡ unlinked
+      → Held (v .size) (v .last) (cond (unlinked && not takes) (removeAt k (v .entries)) placed) (cond takes (v .headers ++ (its ∷ [])) (v .headers))
+  held-by true true t u = joins t
+  held-by true false t u = joins t
+  held-by false true t u = freed t
+  held-by false false t u = remains u
+
+  pub delivered-sound : Sound (delivered v it its k a)
+  delivered-sound =
+      let w = withHeaders (withEntries v (entriesAfter (v .entries) k a)) (headersAfter (v .headers) it its) in
+      let q = postAll (v .queue) (requestEvents it its a) in
+      let s = held-kept v (entriesAfter (v .entries) k a) (headersAfter (v .headers) it its) sound (held-by (takesHeaders (it .entry)) (unlinks (it .entry) (it .local) a) refl refl) in
+      counters-kept (withQueue w q) _
+      (queue-kept w q s (post-all-fits (v .queue) (requestEvents it its a) (sound .queued)))
+
+-- ## The calls
+
+-- rules 3 to 7 on a sound state leave a sound one
+pub request-sound : (v : View) (portal : ℕ) (a : Arrival) → Sound v → a .requested ≤ MEMORY
+    → Sound (requestState v portal a (decide (v .entries) (v .headers) portal a))
+request-sound v portal a s n =
+    decide-cases (v .entries) (v .headers) portal a (λ d. Sound (requestState v portal a d))
+    (registers-kept v _ s)
+    (registers-kept v _ s)
+    (registers-kept v _ s)
+    (λ k c. delivered-sound v s portal a k c n)
+
+-- a request whose arguments are good asks for at most 65,536 bytes
+pub requested-fits : (q : Request) (n : ℕ) → noneBad (badRequestArgument q n) ≡ true → n ≤ MEMORY
+unfolding badRequestArgument
+requested-fits q n e =
+    leb-true n 65536 (by (not (eqb (q .nid) ANY || eqb (q .pid) ANY || eqb (q .uid) ANY)) (leb (q .ack) 3) (leb n 65536) e)
+  where
+    by : (identity ack fits : Bool)
+        → noneBad (cond identity (cond ack (cond fits BadArgument.None BadArgument.Size) BadArgument.Ack) BadArgument.Identity) ≡ true
+        → fits ≡ true
+    by true true true e = refl
+    by true true false e = e
+    by true false fits e = absurd (false≢true e)
+    by false ack fits e = absurd (false≢true e)
+
+pub put-sound : (v : View) (memory : List ℕ) (q : Request) (payload : List ℕ) → Sound v → Sound (put v memory q payload .state)
+unfolding put
+put-sound v memory q payload s =
+    guard-cases (λ o. Sound (o .state)) (refusal v memory) (requestTests v memory q (length payload)) _
+    (λ r. s)
+    (λ passed. request-sound v (q .portal) (arrivalOf q Kind.Put (length payload)) s (requested-fits q (length payload) (passed .1 .0)))
+
+pub get-sound : (v : View) (memory : List ℕ) (q : Request) (reply : List ℕ) → Sound v → Sound (get v memory q reply .state)
+unfolding get
+get-sound v memory q reply s =
+    guard-cases (λ o. Sound (o .state)) (refusal v reply) (requestTests v memory q (length reply)) _
+    (λ r. s)
+    (λ passed. request-sound v (q .portal) (arrivalOf q Kind.Get (length reply)) s (requested-fits q (length reply) (passed .1 .0)))

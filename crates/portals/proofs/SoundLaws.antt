@@ -1,0 +1,113 @@
+-- Soundness as facts, one for each thing that document 01 asks, and what keeps each of them.
+use mathlib.Core.Path.{_≡_, refl, sym, _∙_}
+use mathlib.Core.Bool.{Bool, true, false, _&&_, _||_, not}
+use mathlib.Core.List.{List, [], _∷_, _++_}
+use Prim.Native.Nat.{ℕ, zero, suc, _+_, _≤_, _<_}
+use native.Mathlib.Omega.{arith}
+use borrow.Author.Tests.{not-true, not-false, leb-true, le-leb, eqb-false, ne-eqb, eq-eqb, eqb-true}
+use lib.Dec.{eqb, leb}
+use lib.ListN.{length, set, getD}
+use Rattle.matching.specs.Refusals.{noneBad}
+use Rattle.matching.specs.Entry.{badEntryArgument}
+use Rattle.portals.specs.Lists.{every, any, select}
+use Rattle.portals.specs.Sizes.{MEMORY, SLOTS, HEADERS, EVENTS}
+use Rattle.portals.specs.View.{View}
+use Rattle.portals.specs.Refusals.{sizesKept, hasHandle, distinct, handleGiven, localKept, entrySound, waitsIn, holds, headerSound, lengthsKept, keepsSlot, soundView}
+use Rattle.portals.specs.declared.layout.HeldEntry.{HeldEntry}
+use Rattle.portals.specs.declared.layout.Header.{Header}
+use Rattle.portals.proofs.ListLaws.{both, joined, or-left, or-right, neither, Part, nothing, keeps, leaves, part-none, part-any, any-select, any-join}
+
+pub record Sound (v : View) : Type 0 where
+  pub size : v .size ≤ MEMORY
+  pub slots : length (v .entries) ≤ SLOTS
+  pub waiting : length (v .headers) ≤ HEADERS
+  pub queued : length (v .queue .events) ≤ EVENTS
+  pub handles : distinct (v .entries) ≡ true
+  pub entries : every (entrySound (v .size) (v .last)) (v .entries) ≡ true
+  pub headers : every (headerSound (v .entries)) (v .headers) ≡ true
+  pub retired : every (keepsSlot (v .headers)) (v .entries) ≡ true
+
+pub sound-facts : (v : View) → soundView v ≡ true → Sound v
+unfolding soundView
+sound-facts v e =
+    let a = both _ (every (keepsSlot (v .headers)) (v .entries)) e in
+    let b = both _ (every (headerSound (v .entries)) (v .headers)) (a .0) in
+    let c = both _ (every (entrySound (v .size) (v .last)) (v .entries)) (b .0) in
+    let d = both (sizesKept v) (distinct (v .entries)) (c .0) in
+    let f = both _ (leb (length (v .queue .events)) EVENTS) (d .0) in
+    let g = both _ (leb (length (v .headers)) HEADERS) (f .0) in
+    let h = both (leb (v .size) MEMORY) (leb (length (v .entries)) SLOTS) (g .0) in
+    record {
+      size = leb-true (v .size) MEMORY (h .0);
+      slots = leb-true (length (v .entries)) SLOTS (h .1);
+      waiting = leb-true (length (v .headers)) HEADERS (g .1);
+      queued = leb-true (length (v .queue .events)) EVENTS (f .1);
+      handles = d .1;
+      entries = c .1;
+      headers = b .1;
+      retired = a .1;
+    }
+
+pub facts-sound : (v : View) → Sound v → soundView v ≡ true
+unfolding soundView
+facts-sound v s =
+    rw (
+      le-leb (v .size) MEMORY (s .size),
+      le-leb (length (v .entries)) SLOTS (s .slots),
+      le-leb (length (v .headers)) HEADERS (s .waiting),
+      le-leb (length (v .queue .events)) EVENTS (s .queued),
+      s .handles,
+      s .entries,
+      s .headers,
+      s .retired,
+    )
+
+-- ## Handles stay distinct
+
+turned : (a b : ℕ) → eqb a b ≡ false → eqb b a ≡ false
+turned a b e = ne-eqb b a (λ p. eqb-false a b e (sym p))
+
+pub distinct-part : {l m : List HeldEntry} → Part l m → distinct m ≡ true → distinct l ≡ true
+distinct-part nothing e = refl
+distinct-part (keeps {x} {l} {m} s) e =
+    let n = both (not (any (hasHandle (x .handle)) m)) (distinct m) e in
+    rw (part-none (hasHandle (x .handle)) s (not-true (any (hasHandle (x .handle)) m) (n .0))) (distinct-part s (n .1))
+distinct-part (leaves {x} {l} {m} s) e = distinct-part s (both (not (any (hasHandle (x .handle)) m)) (distinct m) e .1)
+
+any-handle-set : (h : ℕ) (l : List HeldEntry) (k : ℕ) (d x : HeldEntry) → x .handle ≡ getD l k d .handle
+    → any (hasHandle h) (set l k x) ≡ any (hasHandle h) l
+any-handle-set h [] k d x e = refl
+any-handle-set h (y ∷ l) zero d x e = rw e
+any-handle-set h (y ∷ l) (suc k) d x e = rw (any-handle-set h l k d x e)
+
+-- an entry is replaced by one of the same handle
+pub distinct-set : (l : List HeldEntry) (k : ℕ) (d x : HeldEntry) → x .handle ≡ getD l k d .handle → distinct l ≡ true → distinct (set l k x) ≡ true
+distinct-set [] k d x e h = refl
+distinct-set (y ∷ l) zero d x e h = rw e h
+distinct-set (y ∷ l) (suc k) d x e h =
+    let s = both (not (any (hasHandle (y .handle)) l)) (distinct l) h in
+    rw (any-handle-set (y .handle) l k d x e, s .0) (distinct-set l k d x e (s .1))
+
+not-any-join : (h : ℕ) (l : List HeldEntry) (x : HeldEntry) → any (hasHandle h) l ≡ false → hasHandle h x ≡ false → any (hasHandle h) (l ++ (x ∷ [])) ≡ false
+not-any-join h [] x e k = rw k
+not-any-join h (y ∷ l) x e k =
+    let s = neither (hasHandle h y) (any (hasHandle h) l) e in
+    rw (s .0) (not-any-join h l x (s .1) k)
+
+-- an entry with a handle of its own joins the end
+pub distinct-join : (l : List HeldEntry) (x : HeldEntry) → distinct l ≡ true → any (hasHandle (x .handle)) l ≡ false → distinct (l ++ (x ∷ [])) ≡ true
+distinct-join [] x e h = refl
+distinct-join (y ∷ l) x e h =
+    let s = both (not (any (hasHandle (y .handle)) l)) (distinct l) e in
+    let t = neither (hasHandle (x .handle) y) (any (hasHandle (x .handle)) l) h in
+    rw (not-any-join (y .handle) l x (not-true _ (s .0)) (turned (y .handle) (x .handle) (t .0))) (distinct-join l x (s .1) (t .1))
+
+-- a handle above the last given is no entry's
+pub handle-new : (size last h : ℕ) (l : List HeldEntry) → every (entrySound size last) l ≡ true → last < h → any (hasHandle h) l ≡ false
+handle-new size last h [] e k = refl
+handle-new size last h (y ∷ l) e k =
+    let s = both (entrySound size last y) (every (entrySound size last) l) e in
+    let t = both (handleGiven last y && noneBad (badEntryArgument (y .entry) size)) (localKept y) (s .0) in
+    let g = both (handleGiven last y) (noneBad (badEntryArgument (y .entry) size)) (t .0) in
+    let n : y .handle ≤ last = leb-true (y .handle) last (both (leb 1 (y .handle)) (leb (y .handle) last) (g .0) .1) in
+    rw (ne-eqb (y .handle) h (λ p. omega arith)) (handle-new size last h l (s .1) k)
