@@ -3,4 +3,6 @@ pub mod GuardLaws
 pub mod SoundLaws
 pub mod KeptLaws
 pub mod RequestKept
+pub mod EarlyKept
+pub mod CallLaws
 pub mod CasesHold

@@ -11,4 +11,5 @@ pub mod Counters
 pub mod Request
 pub mod EarlyMessages
 pub mod Promises
+pub mod Calls
 pub mod BenchCases

@@ -1,5 +1,6 @@
 // Document 01's target state: what a target holds, when it is sound, and what every call on it answers and leaves.
 pub mod answers;
 pub mod bench;
+pub mod laws;
 pub mod layout;
 pub mod requests;

@@ -1,0 +1,256 @@
+-- The laws of all calls: soundness is kept, a refusal changes nothing, handles ascend.
+use mathlib.Core.Path.{_≡_, refl, sym, _∙_, subst}
+use mathlib.Core.Bool.{Bool, true, false, cond, false≢true}
+use mathlib.Core.List.{List, [], _∷_}
+use Prim.Native.Nat.{ℕ, _+_, _≤_}
+use native.Mathlib.Omega.{arith}
+use borrow.Author.Tests.{leb-true}
+use lib.Dec.{leb, eqb}
+use lib.ListN.{length}
+use Rattle.matching.specs.Refusals.{noneBad}
+use Rattle.matching.specs.Request.{arrivalOf, offsetUsed, accepted, ackGiven}
+use Rattle.matching.specs.declared.layout.Entry.{Entry}
+use Rattle.matching.specs.declared.layout.Request.{Request}
+use Rattle.matching.specs.declared.refusals.Refusal.{Refusal}
+use Rattle.matching.specs.declared.refusals.Refusal.the-variants as Refusal
+use Rattle.matching.specs.declared.refusals.BadArgument.{BadArgument}
+use Rattle.matching.specs.declared.refusals.BadArgument.the-variants as BadArgument
+use Rattle.matching.specs.declared.request.Kind.{Kind}
+use Rattle.matching.specs.declared.request.Kind.the-variants as Kind
+use Rattle.matching.specs.declared.request.Arrival.{Arrival}
+use Rattle.portals.specs.Sizes.{MEMORY, EVENTS}
+use Rattle.portals.specs.View.{View, emptyView, withQueue}
+use Rattle.portals.specs.Refusals.{soundView, Condition}
+use Rattle.portals.specs.Answers.{Answer, MADE, PRIORITY, OVERFLOW, isRefused}
+use Rattle.portals.specs.Outcome.{Outcome, refusal, guarded}
+use Rattle.portals.specs.Making.{notMade, badChoice, new}
+use Rattle.portals.specs.Events.{oldest, readEvent}
+use Rattle.portals.specs.Counters.{counterTests, setCounter, increment}
+use Rattle.portals.specs.Request.{entryAt, decide, requestAnswer, requestState, requestTests, put, get}
+use Rattle.portals.specs.EarlyMessages.{Walk, appendBy, foundOnce, takenBy, appendTests, append, unlinkTests, unlink, lookedAt, deleted, walkFor, searched, searchTests, search}
+use Rattle.portals.specs.Calls.{Call, CallLaws, Handles, linked, taken, refused, stateAfter, answerTo}
+use Rattle.portals.specs.Calls as calls
+use Rattle.portals.specs.declared.layout.Choices.{Choices}
+use Rattle.portals.specs.declared.layout.HeldEntry.{HeldEntry}
+use Rattle.portals.specs.declared.layout.Header.{Header}
+use Rattle.portals.specs.declared.layout.Event.{Event}
+use Rattle.portals.specs.declared.layout.CounterChange.{CounterChange}
+use Rattle.portals.specs.declared.requests.Decision.{Decision}
+use Rattle.portals.specs.declared.requests.Decision.the-variants as Decision
+use Rattle.portals.proofs.ListLaws.{cond-cases}
+use Rattle.portals.proofs.GuardLaws.{guard-cases}
+use Rattle.portals.proofs.SoundLaws.{Sound, sound-facts, facts-sound}
+use Rattle.portals.proofs.KeptLaws.{counters-kept, queue-kept}
+use Rattle.portals.proofs.RequestKept.{put-sound, get-sound}
+use Rattle.portals.proofs.EarlyKept.{append-sound, unlink-sound, search-sound}
+
+-- ## Soundness
+
+oldest-sound : (v : View) (events : List Event) → v .queue .events ≡ events → Sound v → Sound (oldest v events .state)
+oldest-sound v [] e s = s
+oldest-sound v (x ∷ rest) e s =
+    let n : length (x ∷ rest) ≤ EVENTS = subst (λ (l : List Event). length l ≤ EVENTS) e (s .queued) in
+    queue-kept v (record { events = rest; lost = v .queue .lost }) s (omega arith)
+
+read-event-sound : (v : View) → Sound v → Sound (readEvent v .state)
+unfolding readEvent
+read-event-sound v s = oldest-sound v (v .queue .events) refl s
+
+set-sound : (v : View) (x : CounterChange) → Sound v → Sound (setCounter v x .state)
+unfolding setCounter
+set-sound v x s =
+    guard-cases (λ o. Sound (o .state)) (refusal v tt) (counterTests (x .counter)) _ (λ r. s) (λ passed. counters-kept v _ s)
+
+increment-sound : (v : View) (x : CounterChange) → Sound v → Sound (increment v x .state)
+unfolding increment
+increment-sound v x s =
+    guard-cases (λ o. Sound (o .state)) (refusal v tt) (counterTests (x .counter)) _ (λ r. s) (λ passed. counters-kept v _ s)
+
+-- an empty target is sound if its size is
+empty-sound : (size : ℕ) → size ≤ MEMORY → Sound (emptyView size)
+empty-sound size h = record {
+  size = h;
+  slots = omega arith;
+  waiting = omega arith;
+  queued = omega arith;
+  handles = refl;
+  entries = refl;
+  headers = refl;
+  retired = refl;
+}
+
+choice-fits : (c : Choices) → noneBad (badChoice c) ≡ true → c .size ≤ MEMORY
+choice-fits c e = leb-true (c .size) MEMORY (by (leb (c .size) MEMORY) e)
+  where
+    by : (fits : Bool) → noneBad (cond fits BadArgument.None BadArgument.Size) ≡ true → fits ≡ true
+    by true e = refl
+    by false e = e
+
+new-sound : (c : Choices) → Sound (new c .state)
+unfolding new
+new-sound c =
+    guard-cases (λ (o : Outcome View Unit). Sound (o .state)) notMade
+    (record { passed = noneBad (badChoice c); refusal = Refusal.ArgInvalid } ∷ [])
+    (record { answer = MADE; state = emptyView (c .size); buffer = tt })
+    (λ r. empty-sound 0 (omega arith))
+    (λ passed. empty-sound (c .size) (choice-fits c (passed .0)))
+
+-- ## A refusal changes nothing, and no call goes back behind the last handle
+
+pub record Orderly {B : Type 0} (v : View) (b : B) (o : Outcome View B) : Type 0 where
+  pub state : isRefused (o .answer) ≡ true → o .state ≡ v
+  pub buffer : isRefused (o .answer) ≡ true → o .buffer ≡ b
+  pub ascends : v .last ≤ o .state .last
+
+-- so it is where what the call does is no refusal and does not go back
+guarded-orderly : {B : Type 0} (v : View) (b : B) (tests : List Condition) (does : Outcome View B)
+    → isRefused (does .answer) ≡ false
+    → v .last ≤ does .state .last
+    → Orderly v b (guarded v b tests does)
+guarded-orderly v b tests does answers last =
+    guard-cases (Orderly v b) (refusal v b) tests does
+    (λ r. record { state = λ e. refl; buffer = λ e. refl; ascends = omega arith })
+    (λ passed.
+    record {
+      state = λ e. absurd (false≢true (sym answers ∙ e));
+      buffer = λ e. absurd (false≢true (sym answers ∙ e));
+      ascends = last;
+    })
+
+module _ (v : View) where
+  same : v .last ≤ v .last
+  same = omega arith
+
+  next-above : v .last ≤ v .last + 1
+  next-above = omega arith
+
+  append-by-answers : (isTaken : Bool) (e : Entry) (w : Walk Header) → isRefused (appendBy isTaken v e w .answer) ≡ false
+  append-by-answers true e w = refl
+  append-by-answers false e w = refl
+
+  append-by-ascends : (isTaken : Bool) (e : Entry) (w : Walk Header) → v .last ≤ appendBy isTaken v e w .state .last
+  append-by-ascends true e w = same
+  append-by-ascends false e w = next-above
+
+  append-orderly : (e : Entry) → Orderly v tt (append v e)
+  unfolding append
+  append-orderly e =
+      let w = takenBy e (v .headers) in
+      guarded-orderly v tt (appendTests v e) _ (append-by-answers (foundOnce e w) e w) (append-by-ascends (foundOnce e w) e w)
+
+  unlink-orderly : (handle : ℕ) → Orderly v tt (unlink v handle)
+  unfolding unlink
+  unlink-orderly handle = guarded-orderly v tt (unlinkTests v handle) _ refl same
+
+  search-orderly : (e : Entry) → Orderly v tt (search v e)
+  unfolding search
+  search-orderly e =
+      let w = walkFor e (v .headers) in
+      guarded-orderly v tt (searchTests v e) (searched v e w) refl
+      (cond-cases (λ (s : View). v .last ≤ s .last) (eqb (e .list) 0) (lookedAt v e w) (deleted v e w) (λ look. same) (λ delete. same))
+
+  acceptance-answers : (priority : Bool) (n offset ack : ℕ) → isRefused (cond priority (PRIORITY n offset ack) (OVERFLOW n offset ack)) ≡ false
+  acceptance-answers true n offset ack = refl
+  acceptance-answers false n offset ack = refl
+
+  request-answers : (a : Arrival) (ack : ℕ) (d : Decision) → isRefused (requestAnswer (v .entries) a ack d) ≡ false
+  request-answers a ack (Decision.Deliver k) =
+      let x = entryAt (v .entries) k in
+      acceptance-answers (eqb (x .entry .list) 0)
+      (accepted (x .entry) (x .local) a)
+      (offsetUsed (x .entry) (x .local) a)
+      (ackGiven (x .entry .options) (a .kind) ack)
+  request-answers a ack Decision.Drop = refl
+  request-answers a ack Decision.DenyPermission = refl
+  request-answers a ack Decision.DenyOperation = refl
+
+  request-ascends : (portal : ℕ) (a : Arrival) (d : Decision) → v .last ≤ requestState v portal a d .last
+  request-ascends portal a (Decision.Deliver k) = same
+  request-ascends portal a Decision.Drop = same
+  request-ascends portal a Decision.DenyPermission = same
+  request-ascends portal a Decision.DenyOperation = same
+
+  put-orderly : (memory : List ℕ) (q : Request) (payload : List ℕ) → Orderly v memory (put v memory q payload)
+  unfolding put
+  put-orderly memory q payload =
+      let a = arrivalOf q Kind.Put (length payload) in
+      let d = decide (v .entries) (v .headers) (q .portal) a in
+      guarded-orderly v memory (requestTests v memory q (length payload)) _ (request-answers a (q .ack) d) (request-ascends (q .portal) a d)
+
+  get-orderly : (memory : List ℕ) (q : Request) (reply : List ℕ) → Orderly v reply (get v memory q reply)
+  unfolding get
+  get-orderly memory q reply =
+      let a = arrivalOf q Kind.Get (length reply) in
+      let d = decide (v .entries) (v .headers) (q .portal) a in
+      guarded-orderly v reply (requestTests v memory q (length reply)) _ (request-answers a (q .ack) d) (request-ascends (q .portal) a d)
+
+  oldest-orderly : (events : List Event) → Orderly v tt (oldest v events)
+  oldest-orderly [] = guarded-orderly v tt [] (oldest v []) refl same
+  oldest-orderly (x ∷ rest) = guarded-orderly v tt [] (oldest v (x ∷ rest)) refl same
+
+  read-event-orderly : Orderly v tt (readEvent v)
+  unfolding readEvent
+  read-event-orderly = oldest-orderly (v .queue .events)
+
+  set-orderly : (x : CounterChange) → Orderly v tt (setCounter v x)
+  unfolding setCounter
+  set-orderly x = guarded-orderly v tt (counterTests (x .counter)) _ refl same
+
+  increment-orderly : (x : CounterChange) → Orderly v tt (increment v x)
+  unfolding increment
+  increment-orderly x = guarded-orderly v tt (counterTests (x .counter)) _ refl same
+
+-- ## Every call
+
+-- a state, the answer of a call on it, and the state that the call leaves
+record Lawful (v : View) (a : Answer) (s : View) : Type 0 where
+  sound : Sound v → Sound s
+  keeps : isRefused a ≡ true → s ≡ v
+  ascends : v .last ≤ s .last
+
+lawful : {B : Type 0} (v : View) (b : B) (o : Outcome View B) → (Sound v → Sound (o .state)) → Orderly v b o → Lawful v (o .answer) (o .state)
+lawful v b o s h = record { sound = s; keeps = h .state; ascends = h .ascends }
+
+reading : (v : View) (a : Answer) → Lawful v a v
+reading v a = record { sound = λ s. s; keeps = λ e. refl; ascends = omega arith }
+
+call-lawful : (v : View) (memory : List ℕ) (c : Call) → Lawful v (answerTo v memory c) (stateAfter v memory c)
+call-lawful v memory (calls.append e) = lawful v tt (append v e) (append-sound v e) (append-orderly v e)
+call-lawful v memory (calls.unlink handle) = lawful v tt (unlink v handle) (unlink-sound v handle) (unlink-orderly v handle)
+call-lawful v memory (calls.search e) = lawful v tt (search v e) (search-sound v e) (search-orderly v e)
+call-lawful v memory (calls.put q payload) =
+    lawful v memory (put v memory q payload) (put-sound v memory q payload) (put-orderly v memory q payload)
+call-lawful v memory (calls.get q reply) =
+    lawful v reply (get v memory q reply) (get-sound v memory q reply) (get-orderly v memory q reply)
+call-lawful v memory calls.readEvent = lawful v tt (readEvent v) (read-event-sound v) (read-event-orderly v)
+call-lawful v memory (calls.setCounter x) = lawful v tt (setCounter v x) (set-sound v x) (set-orderly v x)
+call-lawful v memory (calls.increment x) = lawful v tt (increment v x) (increment-sound v x) (increment-orderly v x)
+call-lawful v memory (calls.readCounter k) = reading v _
+call-lawful v memory (calls.readRegister k) = reading v _
+call-lawful v memory (calls.ready x) = reading v _
+call-lawful v memory (calls.poll ks tests) = reading v _
+
+-- ## The handle that append gives
+
+handles-by : (isTaken : Bool) (v : View) (e : Entry) (w : Walk Header)
+    → Handles (v .last) (appendBy isTaken v e w .answer) (appendBy isTaken v e w .state .last)
+handles-by true v e w = taken
+handles-by false v e w = linked
+
+append-handles : (v : View) (e : Entry) → Handles (v .last) (append v e .answer) (append v e .state .last)
+unfolding append
+append-handles v e =
+    guard-cases (λ o. Handles (v .last) (o .answer) (o .state .last)) (refusal v tt) (appendTests v e) _
+    (λ r. refused)
+    (λ passed. handles-by (foundOnce e (takenBy e (v .headers))) v e (takenBy e (v .headers)))
+
+pub call-laws : CallLaws
+call-laws = record {
+  sound = λ v memory c h. facts-sound (stateAfter v memory c) (call-lawful v memory c .sound (sound-facts v h));
+  made = λ c. facts-sound (new c .state) (new-sound c);
+  refused = λ v memory c. call-lawful v memory c .keeps;
+  memoryKept = λ v memory q payload. put-orderly v memory q payload .buffer;
+  replyKept = λ v memory q reply. get-orderly v memory q reply .buffer;
+  next = append-handles;
+  ascends = λ v memory c. call-lawful v memory c .ascends;
+}
