@@ -26,7 +26,7 @@ use Rattle.portals.specs.Outcome.{Outcome, refusal, guarded}
 use Rattle.portals.specs.Making.{notMade, badChoice, new}
 use Rattle.portals.specs.Events.{oldest, readEvent}
 use Rattle.portals.specs.Counters.{counterTests, setCounter, increment}
-use Rattle.portals.specs.Request.{entryAt, decide, requestAnswer, requestState, requestTests, put, get}
+use Rattle.portals.specs.Request.{entryAt, decide, answerBy, requestState, requestTests, put, get}
 use Rattle.portals.specs.EarlyMessages.{Walk, appendBy, foundOnce, takenBy, appendTests, append, unlinkTests, unlink, lookedAt, deleted, walkFor, searched, searchTests, search}
 use Rattle.portals.specs.Calls.{Call, CallLaws, Handles, linked, taken, refused, stateAfter, answerTo}
 use Rattle.portals.specs.Calls as calls
@@ -41,7 +41,7 @@ use Rattle.portals.proofs.ListLaws.{cond-cases}
 use Rattle.portals.proofs.GuardLaws.{guard-cases}
 use Rattle.portals.proofs.SoundLaws.{Sound, sound-facts, facts-sound}
 use Rattle.portals.proofs.KeptLaws.{counters-kept, queue-kept}
-use Rattle.portals.proofs.RequestKept.{put-sound, get-sound}
+use Rattle.portals.proofs.RequestKept.{none-beyond, put-sound, get-sound}
 use Rattle.portals.proofs.EarlyKept.{append-sound, unlink-sound, search-sound}
 
 -- ## Soundness
@@ -153,7 +153,7 @@ module _ (v : View) where
   acceptance-answers true n offset ack = refl
   acceptance-answers false n offset ack = refl
 
-  request-answers : (a : Arrival) (ack : ℕ) (d : Decision) → isRefused (requestAnswer (v .entries) a ack d) ≡ false
+  request-answers : (a : Arrival) (ack : ℕ) (d : Decision) → isRefused (answerBy (v .entries) a ack d) ≡ false
   request-answers a ack (Decision.Deliver k) =
       let x = entryAt (v .entries) k in
       acceptance-answers (eqb (x .entry .list) 0)
@@ -251,6 +251,7 @@ call-laws = record {
   refused = λ v memory c. call-lawful v memory c .keeps;
   memoryKept = λ v memory q payload. put-orderly v memory q payload .buffer;
   replyKept = λ v memory q reply. get-orderly v memory q reply .buffer;
+  beyond = λ v portal a s above. none-beyond v portal a (sound-facts v s) above;
   next = append-handles;
   ascends = λ v memory c. call-lawful v memory c .ascends;
 }

@@ -5,6 +5,7 @@ use mathlib.Core.List.{List, [], _∷_, _++_}
 use mathlib.Core.Option.{Option, none, some}
 use Prim.Native.Nat.{ℕ, zero, suc, _+_, _-_, _≤_, _<_}
 use native.Mathlib.Omega.{arith}
+use borrow.Author.Tests.{not-true}
 use lib.ListN.{length, set, getD, length-append}
 use Rattle.portals.specs.Lists.{every, any, select, selectNot, firstOnly, withoutFirst, firstFrom, removeAt}
 
@@ -219,3 +220,10 @@ first-cases p d P from (x ∷ l) without at =
     (λ e. at from 0 (omega arith) (record { inside = omega arith; passes = e }))
     (λ e. first-cases p d P (suc from) l without
     (λ n k h f. at n (suc k) (omega arith) (record { inside = let i : k < length l = f .inside in omega arith; passes = f .passes })))
+
+-- none is found where none passes
+pub first-none : {A : Type 0} (p : A → Bool) (from : ℕ) (l : List A) → every (λ x. not (p x)) l ≡ true → firstFrom p from l ≡ none
+first-none p from [] e = refl
+first-none p from (x ∷ l) e =
+    let s = both (not (p x)) (every (λ x. not (p x)) l) e in
+    rw (not-true (p x) (s .0)) (first-none p (suc from) l (s .1))

@@ -5,7 +5,7 @@ use mathlib.Core.List.{List, [], _∷_, _++_}
 use mathlib.Core.Option.{Option, none, some}
 use Prim.Native.Nat.{ℕ, _+_, _≤_, _<_}
 use native.Mathlib.Omega.{arith}
-use borrow.Author.Tests.{not-true, ltb-true, leb-true, le-leb, eqb-true, eq-eqb}
+use borrow.Author.Tests.{not-true, ltb-true, leb-true, le-leb, eqb-true, eq-eqb, ne-eqb}
 use lib.Dec.{eqb, leb, ltb}
 use lib.ListN.{length, set, getD, length-set}
 use Rattle.matching.specs.Bits.{isSet}
@@ -13,6 +13,7 @@ use Rattle.matching.specs.Refusals.{noneBad}
 use Rattle.matching.specs.Entry.{ANY, MANAGE-LOCAL, badEntryArgument}
 use Rattle.matching.specs.Request.{badRequestArgument, arrivalOf, matches, verdictOn, accepted, place, localAfter, unlinks}
 use Rattle.matching.specs.EarlyMessages.{takesHeaders}
+use Rattle.matching.specs.declared.layout.Entry.{Entry}
 use Rattle.matching.specs.declared.layout.Request.{Request}
 use Rattle.matching.specs.declared.refusals.BadArgument.{BadArgument}
 use Rattle.matching.specs.declared.refusals.BadArgument.the-variants as BadArgument
@@ -35,7 +36,7 @@ use Rattle.portals.specs.declared.requests.Choice.{Choice}
 use Rattle.portals.specs.declared.requests.Choice.the-variants as Choice
 use Rattle.portals.specs.declared.requests.Decision.{Decision}
 use Rattle.portals.specs.declared.requests.Decision.the-variants as Decision
-use Rattle.portals.proofs.ListLaws.{both, joined, or-left, or-right, or-map, or-other, cond-cases, every-at, every-set, every-join, every-imply, part-removeAt, part-length, part-every, any-at, any-set, any-removeAt, any-join, any-last, join-fits, get-set, Found, first-cases}
+use Rattle.portals.proofs.ListLaws.{both, joined, or-left, or-right, or-map, or-other, cond-cases, every-at, every-set, every-join, every-imply, part-removeAt, part-length, part-every, any-at, any-set, any-removeAt, any-join, any-last, join-fits, get-set, Found, first-cases, first-none}
 use Rattle.portals.proofs.GuardLaws.{guard-cases}
 use Rattle.portals.proofs.SoundLaws.{Sound, distinct-part, distinct-set}
 use Rattle.portals.proofs.KeptLaws.{Held, held-kept, counters-kept, registers-kept, queue-kept, post-all-fits}
@@ -92,6 +93,39 @@ module _ (entries : List HeldEntry) (headers : List Header) (portal : ℕ) (a : 
       (λ o. P (decideOn entries headers a (orElse Choice.Priority o (orElse Choice.Overflow (firstFrom (isCandidate portal 1 a) 0 entries) Choice.Nothing))))
       0 entries in-overflow
       (λ at k e f. subst (λ (n : ℕ). P (decideAt entries headers a n)) (let same : k ≡ at = omega arith in same) (at-place 0 k f))
+
+-- ## A portal above 7
+
+-- an entry that passes append's tests is at portal 7 or below
+portal-fits : (e : Entry) (size : ℕ) → noneBad (badEntryArgument e size) ≡ true → e .portal ≤ 7
+unfolding badEntryArgument
+portal-fits e size h = leb-true (e .portal) 7 (by (leb (e .portal) 7) _ h)
+  where
+    by : (fits : Bool) (rest : BadArgument) → noneBad (cond fits rest BadArgument.Portal) ≡ true → fits ≡ true
+    by true rest h = refl
+    by false rest h = h
+
+elsewhere : (size last portal list : ℕ) (a : Arrival) (x : HeldEntry) → 7 < portal → entrySound size last x ≡ true → not (isCandidate portal list a x) ≡ true
+elsewhere size last portal list a x above e =
+    let s = both (handleGiven last x && noneBad (badEntryArgument (x .entry) size)) (localKept x) e in
+    let n = portal-fits (x .entry) size (both (handleGiven last x) (noneBad (badEntryArgument (x .entry) size)) (s .0) .1) in
+    rw (ne-eqb (x .entry .portal) portal (λ same. omega arith)) (off (not (isRetired x)) (eqb (x .entry .list) list) (matches (x .entry) (x .local) a))
+  where
+    off : (b c d : Bool) → not (b && false && c && d) ≡ true
+    off true c d = refl
+    off false c d = refl
+
+-- rule 3: none is chosen there
+pub none-beyond : (v : View) (portal : ℕ) (a : Arrival) → Sound v → 7 < portal → decide (v .entries) (v .headers) portal a ≡ Decision.Drop
+unfolding decide choose
+none-beyond v portal a s above =
+    let away : (list : ℕ) → firstFrom (isCandidate portal list a) 0 (v .entries) ≡ none =
+    λ list. first-none (isCandidate portal list a) 0 (v .entries)
+    (every-imply (entrySound (v .size) (v .last)) (λ x. not (isCandidate portal list a x)) (v .entries)
+    (λ x e. elsewhere (v .size) (v .last) portal list a x above e)
+    (s .entries))
+    in
+    rw (away 0, away 1)
 
 -- ## The entry after the request
 

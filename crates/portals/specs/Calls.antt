@@ -2,9 +2,10 @@
 use mathlib.Core.Path.{_≡_}
 use mathlib.Core.Bool.{true}
 use mathlib.Core.List.{List}
-use Prim.Native.Nat.{ℕ, _+_, _≤_}
+use Prim.Native.Nat.{ℕ, _+_, _≤_, _<_}
 use Rattle.matching.specs.declared.layout.Entry.{Entry}
 use Rattle.matching.specs.declared.layout.Request.{Request}
+use Rattle.matching.specs.declared.request.Arrival.{Arrival}
 use Rattle.portals.specs.View.{View}
 use Rattle.portals.specs.Refusals.{soundView}
 use Rattle.portals.specs.Answers.{Answer, REFUSED, LINKED, TAKEN, isRefused}
@@ -16,6 +17,8 @@ use Rattle.portals.specs.EarlyMessages as early
 use Rattle.portals.specs.declared.layout.Choices.{Choices}
 use Rattle.portals.specs.declared.layout.CounterChange.{CounterChange}
 use Rattle.portals.specs.declared.layout.CounterTest.{CounterTest}
+use Rattle.portals.specs.declared.requests.Decision.{Decision}
+use Rattle.portals.specs.declared.requests.Decision.the-variants as Decision
 
 pub data Call : Type 0 where
   append : Entry → Call
@@ -64,13 +67,6 @@ answerTo v memory (readRegister k) = counters.readRegister v k
 answerTo v memory (ready x) = counters.ready v x
 answerTo v memory (poll ks tests) = counters.poll v ks tests
 
--- the memory that a put leaves, and the reply that a get leaves
-abbrev pub memoryAfter : View → List ℕ → Request → List ℕ → List ℕ
-memoryAfter v memory q payload = request.put v memory q payload .buffer
-
-abbrev pub replyAfter : View → List ℕ → Request → List ℕ → List ℕ
-replyAfter v memory q reply = request.get v memory q reply .buffer
-
 -- an append's answer, and the last handle given before and after it
 pub data Handles (last : ℕ) : Answer → ℕ → Type 0 where
   linked : Handles last (LINKED (last + 1)) (last + 1)
@@ -85,8 +81,13 @@ pub record CallLaws : Type 0 where
   pub made : (c : Choices) → soundView (making.new c .state) ≡ true
   -- a refusal "changes nothing": neither the state nor the buffer that was lent
   pub refused : (v : View) (memory : List ℕ) (c : Call) → isRefused (answerTo v memory c) ≡ true → stateAfter v memory c ≡ v
-  pub memoryKept : (v : View) (memory : List ℕ) (q : Request) (payload : List ℕ) → isRefused (answerTo v memory (put q payload)) ≡ true → memoryAfter v memory q payload ≡ memory
-  pub replyKept : (v : View) (memory : List ℕ) (q : Request) (reply : List ℕ) → isRefused (answerTo v memory (get q reply)) ≡ true → replyAfter v memory q reply ≡ reply
+  pub memoryKept : (v : View) (memory : List ℕ) (q : Request) (payload : List ℕ) → isRefused (answerTo v memory (put q payload)) ≡ true → request.put v memory q payload .buffer ≡ memory
+  pub replyKept : (v : View) (memory : List ℕ) (q : Request) (reply : List ℕ) → isRefused (answerTo v memory (get q reply)) ≡ true → request.get v memory q reply .buffer ≡ reply
+  -- rule 3, "portal above 7: DROPPED": no entry of a sound state stands there
+  pub beyond : (v : View) (portal : ℕ) (a : Arrival)
+      → soundView v ≡ true
+      → 7 < portal
+      → request.decide (v .entries) (v .headers) portal a ≡ Decision.Drop
   -- "Handles count up from 1 .., never twice": append gives the next one or none, and no call goes back
   pub next : (v : View) (e : Entry) → Handles (v .last) (early.append v e .answer) (early.append v e .state .last)
   pub ascends : (v : View) (memory : List ℕ) (c : Call) → v .last ≤ stateAfter v memory c .last

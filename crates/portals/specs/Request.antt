@@ -185,11 +185,11 @@ deliveryAnswer x a ack =
     (ackGiven (x .entry .options) (a .kind) ack)
 
 -- "or DROPPED, PERM, OP with the ack asked"
-abbrev pub requestAnswer : List HeldEntry → Arrival → ℕ → Decision → Answer
-requestAnswer entries a ack (Decision.Deliver k) = deliveryAnswer (entryAt entries k) a ack
-requestAnswer entries a ack Decision.Drop = DROPPED (ackAsked (a .kind) ack)
-requestAnswer entries a ack Decision.DenyPermission = PERM (ackAsked (a .kind) ack)
-requestAnswer entries a ack Decision.DenyOperation = OP (ackAsked (a .kind) ack)
+abbrev pub answerBy : List HeldEntry → Arrival → ℕ → Decision → Answer
+answerBy entries a ack (Decision.Deliver k) = deliveryAnswer (entryAt entries k) a ack
+answerBy entries a ack Decision.Drop = DROPPED (ackAsked (a .kind) ack)
+answerBy entries a ack Decision.DenyPermission = PERM (ackAsked (a .kind) ack)
+answerBy entries a ack Decision.DenyOperation = OP (ackAsked (a .kind) ack)
 
 -- rule 5, "Put writes that many payload bytes"
 abbrev pub memoryAfter : List HeldEntry → Arrival → List ℕ → List ℕ → Decision → List ℕ
@@ -223,7 +223,7 @@ requestTests v memory q requested =
 -- a request that is not refused, with the buffer that it leaves
 abbrev pub served : View → Request → Arrival → Decision → List ℕ → Outcome View (List ℕ)
 served v q a d buffer =
-    record { answer = requestAnswer (v .entries) a (q .ack) d; state = requestState v (q .portal) a d; buffer = buffer }
+    record { answer = answerBy (v .entries) a (q .ack) d; state = requestState v (q .portal) a d; buffer = buffer }
 
 -- "The requested length is the payload's (put) ..". The buffer is the memory.
 abbrev pub putServed : View → List ℕ → Request → List ℕ → Arrival → Decision → Outcome View (List ℕ)
