@@ -123,7 +123,7 @@ appendBy false v e w =
 abbrev pub appended : View → Entry → Walk Header → Outcome View Unit
 appended v e w = appendBy (foundOnce e w) v e w
 
--- "NO_SPACE: append: 64 slots taken at entry, or no handle left": decision 1
+-- NO_SPACE: "append: 64 slots taken at entry, or no handle left": decision 1
 abbrev pub hasSpace : View → Bool
 hasSpace v = ltb (length (v .entries)) SLOTS && ltb (v .last) LAST-HANDLE
 
@@ -146,7 +146,7 @@ abbrev pub badHandleArgument : View → ℕ → BadArgument
 badHandleArgument v handle =
     firstBad (record { passed = any (isLinkedAs handle) (v .entries); argument = BadArgument.Handle } ∷ [])
 
--- "IN_USE: unlink: messages wait in this overflow entry": only an overflow entry is named by a sound state's headers
+-- IN_USE: "unlink: messages wait in this overflow entry": only an overflow entry is named by a sound state's headers
 abbrev pub unlinkTests : View → ℕ → List Condition
 unlinkTests v handle =
     record { passed = noneBad (badHandleArgument v handle); refusal = Refusal.ArgInvalid }

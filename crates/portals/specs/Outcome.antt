@@ -24,7 +24,7 @@ guarded v b tests does = unlessRefused (refusal v b) tests does
 abbrev pub guardedRead : List Condition → Answer → Answer
 guardedRead tests answer = unlessRefused refused tests answer
 
--- a call on any state: "BAD_STATE: the state is not sound"
+-- a call on any state: BAD_STATE: "the state is not sound"
 abbrev pub unlessUnsound : {B : Type 0} → (View → Outcome View B) → Seen → B → Outcome Seen B
 unlessUnsound call (sound v) b =
     record { answer = call v .answer; state = sound (call v .state); buffer = call v .buffer }

@@ -213,7 +213,7 @@ replyAfter entries a memory reply Decision.DenyOperation = reply
 
 -- ## The calls
 
--- "BAD_MEMORY: put or get: memory length differs from the state's", then ARG_INVALID
+-- BAD_MEMORY: "put or get: memory length differs from the state's", then ARG_INVALID
 abbrev pub requestTests : View → List ℕ → Request → ℕ → List Condition
 requestTests v memory q requested =
     record { passed = eqb (length memory) (v .size); refusal = Refusal.BadMemory }
