@@ -23,14 +23,14 @@ use Rattle.portals.specs.View.{View, emptyView, withQueue}
 use Rattle.portals.specs.Refusals.{soundView, Condition}
 use Rattle.portals.specs.Answers.{Answer, MADE, PRIORITY, OVERFLOW, isRefused}
 use Rattle.portals.specs.Outcome.{Outcome, refusal, guarded}
-use Rattle.portals.specs.Making.{notMade, badChoice, new}
+use Rattle.portals.specs.Making.{notMade, badSetting, new}
 use Rattle.portals.specs.Events.{oldest, readEvent}
 use Rattle.portals.specs.Counters.{counterTests, setCounter, increment}
 use Rattle.portals.specs.Request.{entryAt, decide, answerBy, requestState, requestTests, put, get}
 use Rattle.portals.specs.EarlyMessages.{Walk, appendBy, foundOnce, takenBy, appendTests, append, unlinkTests, unlink, lookedAt, deleted, walkFor, searched, searchTests, search}
 use Rattle.portals.specs.Calls.{Call, CallLaws, Handles, linked, taken, refused, stateAfter, answerTo}
 use Rattle.portals.specs.Calls as calls
-use Rattle.portals.specs.declared.layout.Choices.{Choices}
+use Rattle.portals.specs.declared.layout.Settings.{Settings}
 use Rattle.portals.specs.declared.layout.HeldEntry.{HeldEntry}
 use Rattle.portals.specs.declared.layout.Header.{Header}
 use Rattle.portals.specs.declared.layout.Event.{Event}
@@ -79,21 +79,21 @@ empty-sound size h = record {
   retired = refl;
 }
 
-choice-fits : (c : Choices) → noneBad (badChoice c) ≡ true → c .size ≤ MEMORY
-choice-fits c e = leb-true (c .size) MEMORY (by (leb (c .size) MEMORY) e)
+setting-fits : (c : Settings) → noneBad (badSetting c) ≡ true → c .size ≤ MEMORY
+setting-fits c e = leb-true (c .size) MEMORY (by (leb (c .size) MEMORY) e)
   where
     by : (fits : Bool) → noneBad (cond fits BadArgument.None BadArgument.Size) ≡ true → fits ≡ true
     by true e = refl
     by false e = e
 
-new-sound : (c : Choices) → Sound (new c .state)
+new-sound : (c : Settings) → Sound (new c .state)
 unfolding new
 new-sound c =
     guard-cases (λ (o : Outcome View Unit). Sound (o .state)) notMade
-    (record { passed = noneBad (badChoice c); refusal = Refusal.ArgInvalid } ∷ [])
+    (record { passed = noneBad (badSetting c); refusal = Refusal.ArgInvalid } ∷ [])
     (record { answer = MADE; state = emptyView (c .size); buffer = tt })
     (λ r. empty-sound 0 (omega arith))
-    (λ passed. empty-sound (c .size) (choice-fits c (passed .0)))
+    (λ passed. empty-sound (c .size) (setting-fits c (passed .0)))
 
 -- ## A refusal changes nothing, and no call goes back behind the last handle
 

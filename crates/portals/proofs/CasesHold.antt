@@ -14,11 +14,12 @@ use Rattle.matching.specs.Events.{disabled}
 use Rattle.matching.specs.Counters.{amount}
 use Rattle.matching.specs.declared.layout.Entry.{Entry}
 use Rattle.matching.specs.declared.request.Arrival.{Arrival}
+use Rattle.portals.specs.Refusals.{soundView}
 use Rattle.portals.specs.Events.{post, readEvent}
 use Rattle.portals.specs.Counters.{counted, setCounter, increment, readCounter}
 use Rattle.portals.specs.Request.{choose, decide, message, entryAfter, put}
 use Rattle.portals.specs.EarlyMessages.{walkFor, takenBy, append}
-use Rattle.portals.specs.BenchCases.{AllHold, table}
+use Rattle.portals.specs.BenchCases.{AllHold, done, _then_, table}
 
 and-false : (x : Bool) → (x && false) ≡ false
 and-false true = refl
@@ -30,71 +31,28 @@ never-unlinks e local a free once =
     rw (once, le-ltb (e .length - localAfter e local a) (e .minfree) (omega arith)) (and-false (isSet (e .options) MANAGE-LOCAL))
 
 pub cases-hold : AllHold table
-unfolding badEntryArgument badRequestArgument offsetUsed available bitsAgree allowsLength matches verdictOn accepted place localAfter unlinks ackGiven takesHeaders fits disabled amount post readEvent counted setCounter increment readCounter choose decide message entryAfter put walkFor takenBy append
-cases-hold = (
-  refl,
-  (
-    refl,
-    (
-      (refl, refl),
-      (
-        (refl, refl),
-        (
-          (refl, refl),
-          (
-            refl,
-            (
-              refl,
-              (
-                refl,
-                (
-                  refl,
-                  (
-                    refl,
-                    (
-                      never-unlinks,
-                      (
-                        (refl, refl),
-                        (
-                          (refl, refl),
-                          (
-                            (refl, refl),
-                            (
-                              (refl, refl),
-                              (
-                                (refl, refl),
-                                (
-                                  refl,
-                                  (
-                                    (refl, refl),
-                                    (
-                                      (refl, refl),
-                                      (
-                                        (refl, refl),
-                                        (
-                                          refl,
-                                          (
-                                            refl,
-                                            tt,
-                                          ),
-                                        ),
-                                      ),
-                                    ),
-                                  ),
-                                ),
-                              ),
-                            ),
-                          ),
-                        ),
-                      ),
-                    ),
-                  ),
-                ),
-              ),
-            ),
-          ),
-        ),
-      ),
-    ),
-  ),
-)
+unfolding badEntryArgument badRequestArgument offsetUsed available bitsAgree allowsLength matches verdictOn accepted place localAfter unlinks ackGiven takesHeaders fits disabled amount soundView post readEvent counted setCounter increment readCounter choose decide message entryAfter put walkFor takenBy append
+cases-hold =
+    refl
+    then refl
+    then refl
+    then refl
+    then refl
+    then refl
+    then refl
+    then refl
+    then refl
+    then refl
+    then never-unlinks
+    then refl
+    then refl
+    then refl
+    then refl
+    then refl
+    then refl
+    then refl
+    then refl
+    then refl
+    then refl
+    then refl
+    then done

@@ -11,7 +11,7 @@ use Rattle.portals.specs.Lists.{every}
 use Rattle.portals.specs.Sizes.{SLOTS, HEADERS, EVENTS}
 use Rattle.portals.specs.View.{View, EventQueue, withEntries, withHeaders, withQueue, withCounters, withRegisters}
 use Rattle.portals.specs.Refusals.{distinct, entrySound, headerSound, keepsSlot}
-use Rattle.portals.specs.Events.{Issued, withGap, gapOf, isDropped, postBy, post, postAll, readEvent}
+use Rattle.portals.specs.Events.{Issued, withGap, gapOf, isDisabled, postBy, post, postAll, readEvent}
 use Rattle.portals.specs.declared.layout.HeldEntry.{HeldEntry}
 use Rattle.portals.specs.declared.layout.Header.{Header}
 use Rattle.portals.specs.declared.layout.Event.{Event}
@@ -70,7 +70,7 @@ post-room false false q e h n = n
 -- a queue that is posted to stays within its places
 pub post-fits : (q : EventQueue) (i : Issued) → length (q .events) ≤ EVENTS → length (post q i .events) ≤ EVENTS
 unfolding post
-post-fits q i n = post-room (isDropped i) (ltb (length (q .events)) EVENTS) q (i .event) refl n
+post-fits q i n = post-room (isDisabled i) (ltb (length (q .events)) EVENTS) q (i .event) refl n
 
 pub post-all-fits : (q : EventQueue) (is : List Issued) → length (q .events) ≤ EVENTS → length (postAll q is .events) ≤ EVENTS
 post-all-fits q [] n = n

@@ -25,11 +25,11 @@ use Rattle.matching.specs.declared.request.Verdict.the-variants as Verdict
 use Rattle.matching.proofs.RequestLaws.{accepted-requested, place-start, place-end, local-stays, local-length}
 use Rattle.portals.specs.Lists.{every, any, firstFrom, removeAt}
 use Rattle.portals.specs.Sizes.{MEMORY, SLOTS, HEADERS, EVENTS}
-use Rattle.portals.specs.View.{View, isRetired, withEntries, withHeaders, withQueue, withCounters, withRegisters}
+use Rattle.portals.specs.View.{View, isRetired, zeroEntry, withEntries, withHeaders, withQueue, withCounters, withRegisters}
 use Rattle.portals.specs.Refusals.{handleGiven, localKept, entrySound, waitsIn, holds, bytesInside, lengthsKept, headerSound, keepsSlot}
 use Rattle.portals.specs.Outcome.{Outcome, refusal}
 use Rattle.portals.specs.Events.{postAll}
-use Rattle.portals.specs.Request.{isIn, isCandidate, orElse, choose, noEntry, entryAt, hasRoom, decideBy, decideAt, decideOn, decide, message, entryAfter, entriesAfter, headersAfter, requestEvents, delivered, requestState, requestTests, put, get}
+use Rattle.portals.specs.Request.{isIn, isCandidate, orElse, choose, entryAt, hasRoom, decideBy, decideAt, decideOn, decide, message, entryAfter, entriesAfter, headersAfter, requestEvents, delivered, requestState, requestTests, put, get}
 use Rattle.portals.specs.declared.layout.HeldEntry.{HeldEntry}
 use Rattle.portals.specs.declared.layout.Header.{Header}
 use Rattle.portals.specs.declared.requests.Choice.{Choice}
@@ -53,7 +53,7 @@ pub record Chosen (entries : List HeldEntry) (headers : List Header) (portal : �
 
 module _ (entries : List HeldEntry) (headers : List Header) (portal : ℕ) (a : Arrival) (P : Decision → Type 0) (drop : P Decision.Drop)
     (permission : P Decision.DenyPermission) (operation : P Decision.DenyOperation) (deliver : (k : ℕ) → Chosen entries headers portal a k → P (Decision.Deliver k)) where
-  judged : (list k : ℕ) → Found (isCandidate portal list a) entries noEntry k → (verdict : Verdict) (room : Bool)
+  judged : (list k : ℕ) → Found (isCandidate portal list a) entries zeroEntry k → (verdict : Verdict) (room : Bool)
       → verdictOn (entryAt entries k .entry) a ≡ verdict
       → hasRoom headers (entryAt entries k) ≡ room
       → P (decideBy verdict room k)
@@ -75,12 +75,12 @@ module _ (entries : List HeldEntry) (headers : List Header) (portal : ℕ) (a : 
         room = q;
       })
 
-  at-place : (list k : ℕ) → Found (isCandidate portal list a) entries noEntry k → P (decideAt entries headers a k)
+  at-place : (list k : ℕ) → Found (isCandidate portal list a) entries zeroEntry k → P (decideAt entries headers a k)
   at-place list k f = judged list k f (verdictOn (entryAt entries k .entry) a) (hasRoom headers (entryAt entries k)) refl refl
 
   in-overflow : P (decideOn entries headers a (orElse Choice.Overflow (firstFrom (isCandidate portal 1 a) 0 entries) Choice.Nothing))
   in-overflow =
-      first-cases (isCandidate portal 1 a) noEntry
+      first-cases (isCandidate portal 1 a) zeroEntry
       (λ o. P (decideOn entries headers a (orElse Choice.Overflow o Choice.Nothing)))
       0 entries drop
       (λ at k e f. subst (λ (n : ℕ). P (decideAt entries headers a n)) (let same : k ≡ at = omega arith in same) (at-place 1 k f))
@@ -89,7 +89,7 @@ module _ (entries : List HeldEntry) (headers : List Header) (portal : ℕ) (a : 
   pub decide-cases : P (decide entries headers portal a)
   unfolding decide choose
   decide-cases =
-      first-cases (isCandidate portal 0 a) noEntry
+      first-cases (isCandidate portal 0 a) zeroEntry
       (λ o. P (decideOn entries headers a (orElse Choice.Priority o (orElse Choice.Overflow (firstFrom (isCandidate portal 1 a) 0 entries) Choice.Nothing))))
       0 entries in-overflow
       (λ at k e f. subst (λ (n : ℕ). P (decideAt entries headers a n)) (let same : k ≡ at = omega arith in same) (at-place 0 k f))
@@ -209,7 +209,7 @@ module _ (v : View) (sound : Sound v) (portal : ℕ) (a : Arrival) (k : ℕ) (ch
         entriesSound = part-every (entrySound (v .size) (v .last)) p (sound .entries);
         headersSound =
             every-imply (headerSound (v .entries)) (headerSound (removeAt k (v .entries))) (v .headers)
-            (λ h e. rw (any-removeAt (holds h) (v .entries) k noEntry (holds-none h it t)) e)
+            (λ h e. rw (any-removeAt (holds h) (v .entries) k zeroEntry (holds-none h it t)) e)
             (sound .headers);
         retired = part-every (keepsSlot (v .headers)) p (sound .retired);
       }
@@ -234,11 +234,11 @@ module _ (v : View) (sound : Sound v) (portal : ℕ) (a : Arrival) (k : ℕ) (ch
       record {
         slots = omega arith;
         waiting = room;
-        handles = distinct-set (v .entries) k noEntry (entryAfter it a) same-handle (sound .handles);
+        handles = distinct-set (v .entries) k zeroEntry (entryAfter it a) same-handle (sound .handles);
         entriesSound =
             every-set (entrySound (v .size) (v .last)) (v .entries) k (entryAfter it a) (sound .entries)
             (entry-kept (v .size) (v .last) it a
-            (every-at (entrySound (v .size) (v .last)) (v .entries) k noEntry (chosen .inside) (sound .entries)));
+            (every-at (entrySound (v .size) (v .last)) (v .entries) k zeroEntry (chosen .inside) (sound .entries)));
         headersSound = inside;
         retired =
             every-set (keepsSlot headers) (v .entries) k (entryAfter it a)
@@ -250,7 +250,7 @@ module _ (v : View) (sound : Sound v) (portal : ℕ) (a : Arrival) (k : ℕ) (ch
   waited : every (headerSound placed) (v .headers) ≡ true
   waited =
       every-imply (headerSound (v .entries)) (headerSound placed) (v .headers)
-      (λ h e. rw (any-set (holds h) (v .entries) k noEntry (entryAfter it a) (holds-entry h it a)) e)
+      (λ h e. rw (any-set (holds h) (v .entries) k zeroEntry (entryAfter it a) (holds-entry h it a)) e)
       (sound .headers)
 
   -- its header finds a place, names it, and waits in it
@@ -265,8 +265,8 @@ module _ (v : View) (sound : Sound v) (portal : ℕ) (a : Arrival) (k : ℕ) (ch
   named t =
       let l = length-set (v .entries) k (entryAfter it a) in
       let n = chosen .inside in
-      any-at (holds its) placed k noEntry (omega arith)
-      (rw (get-set (v .entries) k noEntry (entryAfter it a) (chosen .inside), holds-entry its it a)
+      any-at (holds its) placed k zeroEntry (omega arith)
+      (rw (get-set (v .entries) k zeroEntry (entryAfter it a) (chosen .inside), holds-entry its it a)
       (message-held it portal a (chosen .portalOf) t))
 
   waits-there : waitsIn (entryAfter it a) its ≡ true

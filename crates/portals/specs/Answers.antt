@@ -50,7 +50,7 @@ pub data Answer : Type 0 where
   REGISTER : ℕ → Answer
   READY : Answer
   NOT-READY : Answer
-  -- the place in the list
+  -- the place in the list, from 0
   REACHED : ℕ → Answer
   NONE-REACHED : Answer
 

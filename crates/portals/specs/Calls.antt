@@ -14,7 +14,7 @@ use Rattle.portals.specs.Events as events
 use Rattle.portals.specs.Counters as counters
 use Rattle.portals.specs.Request as request
 use Rattle.portals.specs.EarlyMessages as early
-use Rattle.portals.specs.declared.layout.Choices.{Choices}
+use Rattle.portals.specs.declared.layout.Settings.{Settings}
 use Rattle.portals.specs.declared.layout.CounterChange.{CounterChange}
 use Rattle.portals.specs.declared.layout.CounterTest.{CounterTest}
 use Rattle.portals.specs.declared.requests.Decision.{Decision}
@@ -78,7 +78,7 @@ pub record CallLaws : Type 0 where
   -- "Every call on a sound state leaves a sound one."
   pub sound : (v : View) (memory : List ℕ) (c : Call) → soundView v ≡ true → soundView (stateAfter v memory c) ≡ true
   -- "A new target": it is sound, also where its choices are refused
-  pub made : (c : Choices) → soundView (making.new c .state) ≡ true
+  pub made : (c : Settings) → soundView (making.new c .state) ≡ true
   -- a refusal "changes nothing": neither the state nor the buffer that was lent
   pub refused : (v : View) (memory : List ℕ) (c : Call) → isRefused (answerTo v memory c) ≡ true → stateAfter v memory c ≡ v
   pub memoryKept : (v : View) (memory : List ℕ) (q : Request) (payload : List ℕ) → isRefused (answerTo v memory (put q payload)) ≡ true → request.put v memory q payload .buffer ≡ memory

@@ -4,6 +4,7 @@ use mathlib.Core.List.{List, [], _∷_, _++_}
 use Prim.Native.Nat.{ℕ}
 use lib.Dec.{eqb, ltb}
 use lib.ListN.{length}
+use Rattle.matching.specs.Request.{hdrdataOf}
 use Rattle.matching.specs.Events.{disabled}
 use Rattle.matching.specs.declared.layout.Entry.{Entry}
 use Rattle.matching.specs.declared.request.Kind.{Kind}
@@ -51,7 +52,8 @@ entryEvent kind fail list e owner = record {
   options = e .options;
 }
 
--- the others carry all fields: the message's, as it arrived, and the user of the entry that reports it
+-- the others carry all fields: the message's, as it arrived, and the user of the entry that reports it. "Header data is 0 for get.":
+-- also of a waiting header that a caller made
 abbrev pub messageEvent : EventKind → ℕ → Header → Entry → ℕ → Issued
 messageEvent kind list h e owner = record {
   event = record {
@@ -69,7 +71,7 @@ messageEvent kind list h e owner = record {
     place = h .place;
     matchbits = h .matchbits;
     offset = h .offset;
-    hdrdata = h .hdrdata;
+    hdrdata = hdrdataOf (kindOf (h .kind)) (h .hdrdata);
     user = e .user;
   };
   options = e .options;
@@ -113,8 +115,8 @@ noMatchEvent e = entryEvent EventKind.Search FailType.NoMatch 0 e 0
 -- ## The queue
 
 -- "The options of the entry whose user the event carries decide"
-abbrev pub isDropped : Issued → Bool
-isDropped i = disabled (i .options) (eventKind (i .event .kind)) (failType (i .event .fail))
+abbrev pub isDisabled : Issued → Bool
+isDisabled i = disabled (i .options) (eventKind (i .event .kind)) (failType (i .event .fail))
 
 abbrev pub withGap : Event → ℕ → Event
 withGap e gap = record {
@@ -148,7 +150,7 @@ postBy false true q e = record { events = q .events ++ (withGap e (gapOf (q .los
 postBy false false q e = record { events = q .events; lost = 1 }
 
 unfoldable pub post : EventQueue → Issued → EventQueue
-post q i = postBy (isDropped i) (ltb (length (q .events)) EVENTS) q (i .event)
+post q i = postBy (isDisabled i) (ltb (length (q .events)) EVENTS) q (i .event)
 
 -- one after the other
 abbrev pub postAll : EventQueue → List Issued → EventQueue

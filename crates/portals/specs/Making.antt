@@ -1,4 +1,4 @@
--- Making a target, from the choices that are made for it.
+-- Making a target, from what is settled for it.
 use mathlib.Core.Bool.{Bool, true, false}
 use mathlib.Core.List.{[], _∷_}
 use Prim.Native.Nat.{ℕ}
@@ -13,18 +13,18 @@ use Rattle.portals.specs.View.{View, emptyView}
 use Rattle.portals.specs.Refusals.{Condition, unlessRefused}
 use Rattle.portals.specs.Answers.{MADE, refused}
 use Rattle.portals.specs.Outcome.{Outcome}
-use Rattle.portals.specs.declared.layout.Choices.{Choices}
+use Rattle.portals.specs.declared.layout.Settings.{Settings}
 
 -- "size above 65,536"
-abbrev pub badChoice : Choices → BadArgument
-badChoice c = firstBad (record { passed = leb (c .size) MEMORY; argument = BadArgument.Size } ∷ [])
+abbrev pub badSetting : Settings → BadArgument
+badSetting c = firstBad (record { passed = leb (c .size) MEMORY; argument = BadArgument.Size } ∷ [])
 
 -- "a new target of size 0 then comes back"
 abbrev pub notMade : Refusal → Outcome View Unit
 notMade r = record { answer = refused r; state = emptyView 0; buffer = tt }
 
-unfoldable pub new : Choices → Outcome View Unit
+unfoldable pub new : Settings → Outcome View Unit
 new c =
     unlessRefused notMade
-    (record { passed = noneBad (badChoice c); refusal = Refusal.ArgInvalid } ∷ [])
+    (record { passed = noneBad (badSetting c); refusal = Refusal.ArgInvalid } ∷ [])
     (record { answer = MADE; state = emptyView (c .size); buffer = tt })

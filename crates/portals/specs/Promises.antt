@@ -5,7 +5,7 @@ use mathlib.Core.List.{List}
 use Prim.Native.Nat.{ℕ}
 use Rattle.matching.specs.declared.layout.Entry.{Entry}
 use Rattle.matching.specs.declared.layout.Request.{Request}
-use Rattle.portals.specs.View.{View}
+use Rattle.portals.specs.View.{View, newTarget}
 use Rattle.portals.specs.Refusals.{Seen, sound, seen}
 use Rattle.portals.specs.Answers.{Answer, isRefused, newAnswer, appendAnswer, confirmation, searchAnswer, requestAnswer, eventAnswer, counterAnswer, registerAnswer, readyAnswer, pollAnswer}
 use Rattle.portals.specs.Outcome.{Outcome, unlessUnsound, readUnlessUnsound}
@@ -14,7 +14,7 @@ use Rattle.portals.specs.Events.{readEvent}
 use Rattle.portals.specs.Counters.{setCounter, increment, readCounter, readRegister, ready, poll}
 use Rattle.portals.specs.Request.{put, get}
 use Rattle.portals.specs.EarlyMessages.{append, unlink, search}
-use Rattle.portals.specs.declared.layout.Choices.{Choices}
+use Rattle.portals.specs.declared.layout.Settings.{Settings}
 use Rattle.portals.specs.declared.layout.CounterChange.{CounterChange}
 use Rattle.portals.specs.declared.layout.CounterTest.{CounterTest}
 use Rattle.portals.specs.declared.layout.Target.{Target}
@@ -40,9 +40,10 @@ pub record Met {B : Type 0} (call : View → Outcome View B) (t : Target) (lent 
 pub record ReadMet (call : View → Answer) (t : Target) (answer : Answer) : Type 0 where
   pub outcome : answer ≡ readUnlessUnsound call (seen t)
 
--- Making a target: there is no state before it. What it makes is sound, also beside a refusal.
-pub record NewMet (c : Choices) (r : NewDone) : Type 0 where
+-- Making a target: there is no state before it. What it makes is empty in every bit, and sound, also beside a refusal.
+pub record NewMet (c : Settings) (r : NewDone) : Type 0 where
   pub answer : newAnswer (r .answer) ≡ new c .answer
+  pub target : r .target ≡ newTarget (new c .state .size)
   pub state : seen (r .target) ≡ sound (new c .state)
 
 -- ## One for each call

@@ -21,7 +21,7 @@ use Rattle.matching.specs.declared.refusals.Refusal.the-variants as Refusal
 use Rattle.portals.specs.Lists.{firstFrom, removeAt, overwritten}
 use Rattle.portals.specs.Sizes.{HEADERS}
 use Rattle.portals.specs.Kinds.{kindNumber}
-use Rattle.portals.specs.View.{View, isRetired, withEntries, withHeaders, withQueue, withCounters, withRegisters}
+use Rattle.portals.specs.View.{View, isRetired, zeroEntry, withEntries, withHeaders, withQueue, withCounters, withRegisters}
 use Rattle.portals.specs.Refusals.{Condition}
 use Rattle.portals.specs.Answers.{Answer, PRIORITY, OVERFLOW, DROPPED, PERM, OP}
 use Rattle.portals.specs.Outcome.{Outcome, guarded}
@@ -55,30 +55,8 @@ choose entries portal a =
     (orElse Choice.Overflow (firstFrom (isCandidate portal 1 a) 0 entries) Choice.Nothing)
 
 -- the entry at a place that was chosen; beyond the end, where none is, zeros
-abbrev pub noEntry : HeldEntry
-noEntry = record {
-  entry = record {
-    portal = 0;
-    list = 0;
-    counter = 0;
-    options = 0;
-    start = 0;
-    length = 0;
-    minfree = 0;
-    uid = 0;
-    nid = 0;
-    pid = 0;
-    matchbits = 0;
-    ignorebits = 0;
-    user = 0;
-  };
-  handle = 0;
-  local = 0;
-  retired = 0;
-}
-
 abbrev pub entryAt : List HeldEntry → ℕ → HeldEntry
-entryAt entries k = getD entries k noEntry
+entryAt entries k = getD entries k zeroEntry
 
 -- ## Rule 4
 

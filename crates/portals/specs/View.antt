@@ -1,4 +1,5 @@
--- What a target holds, as plain lists and numbers. Which slot an entry, a header or an event is kept in is left free: it is not seen here.
+-- What a target holds, as plain lists and numbers. Left free, and not seen here: where the ring of events begins, and what stands in
+-- slots that are not in use.
 use mathlib.Core.Bool.{Bool, not}
 use mathlib.Core.List.{List, []}
 use Prim.Native.Nat.{ℕ, _%_}
@@ -6,7 +7,7 @@ use lib.Dec.{eqb}
 use lib.ListN.{take, replicate}
 use Rattle.matching.specs.declared.layout.Entry.{Entry}
 use Rattle.portals.specs.Lists.{ringOf}
-use Rattle.portals.specs.Sizes.{EVENTS, COUNTERS}
+use Rattle.portals.specs.Sizes.{SLOTS, HEADERS, EVENTS, COUNTERS}
 use Rattle.portals.specs.declared.layout.HeldEntry.{HeldEntry}
 use Rattle.portals.specs.declared.layout.Header.{Header}
 use Rattle.portals.specs.declared.layout.Event.{Event}
@@ -51,7 +52,85 @@ viewOf t = record {
   registers = t .registers;
 }
 
+-- ## A new target
+
 -- "A new target is empty, all numbers 0."
+abbrev pub zeroEntry : HeldEntry
+zeroEntry = record {
+  entry = record {
+    portal = 0;
+    list = 0;
+    counter = 0;
+    options = 0;
+    start = 0;
+    length = 0;
+    minfree = 0;
+    uid = 0;
+    nid = 0;
+    pid = 0;
+    matchbits = 0;
+    ignorebits = 0;
+    user = 0;
+  };
+  handle = 0;
+  local = 0;
+  retired = 0;
+}
+
+abbrev pub zeroHeader : Header
+zeroHeader = record {
+  portal = 0;
+  kind = 0;
+  handle = 0;
+  nid = 0;
+  pid = 0;
+  uid = 0;
+  requested = 0;
+  accepted = 0;
+  place = 0;
+  matchbits = 0;
+  offset = 0;
+  hdrdata = 0;
+}
+
+abbrev pub zeroEvent : Event
+zeroEvent = record {
+  kind = 0;
+  fail = 0;
+  gap = 0;
+  portal = 0;
+  list = 0;
+  owner = 0;
+  nid = 0;
+  pid = 0;
+  uid = 0;
+  requested = 0;
+  accepted = 0;
+  place = 0;
+  matchbits = 0;
+  offset = 0;
+  hdrdata = 0;
+  user = 0;
+}
+
+abbrev pub zeroCounters : List Counter
+zeroCounters = replicate COUNTERS (record { success = 0; failure = 0 })
+
+abbrev pub zeroRegisters : Registers
+zeroRegisters = record { dropped = 0; permission = 0; operation = 0 }
+
+abbrev pub newTarget : ℕ → Target
+newTarget size = record {
+  size = size;
+  last = 0;
+  entries = record { slots = replicate SLOTS zeroEntry; count = 0 };
+  unexpected = record { slots = replicate HEADERS zeroHeader; count = 0 };
+  queue = record { slots = replicate EVENTS zeroEvent; head = 0; count = 0; lost = 0 };
+  counters = record { slots = zeroCounters };
+  registers = zeroRegisters;
+}
+
+-- what it holds
 abbrev pub emptyView : ℕ → View
 emptyView size = record {
   size = size;
@@ -59,8 +138,8 @@ emptyView size = record {
   entries = [];
   headers = [];
   queue = record { events = []; lost = 0 };
-  counters = replicate COUNTERS (record { success = 0; failure = 0 });
-  registers = record { dropped = 0; permission = 0; operation = 0 };
+  counters = zeroCounters;
+  registers = zeroRegisters;
 }
 
 -- ## A view with one part changed

@@ -1,4 +1,4 @@
-// The answers of the calls: an enum for each, and beside it the state that the call leaves.
+// The answers of the calls: an enum for each; beside it, for a call that may change the state, the state that it leaves.
 use crate::layout::Counter;
 use crate::layout::Event;
 use crate::layout::Target;
@@ -91,7 +91,7 @@ pub enum ReadyAnswer {
 }
 
 pub enum PollAnswer {
-    // The place in the list of counters.
+    // The place in the list of counters, from 0.
     Reached(usize),
     NoneReached,
     Refused(Refusal),

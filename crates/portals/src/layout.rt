@@ -1,11 +1,11 @@
 // The state that a host keeps and lends to each call, and what it hands over by value. Unsigned numbers in C's layout, with no
 // padding: every bit pattern is a value. A flag is set when it is not 0; a kind is read by a decoding that knows every number; the
-// head of the ring is read modulo 64.
+// head of the ring is read modulo 64. An event in the queue is given back as it stands there.
 use matching::layout::Entry;
 
-// What is chosen when a target is made.
+// What is settled when a target is made.
 #[repr(C)]
-pub struct Choices {
+pub struct Settings {
     // The memory's length in bytes: at most 65,536.
     pub size: u32,
 }
