@@ -19,8 +19,8 @@ use Rattle.matching.specs.declared.request.Kind.{Kind}
 use Rattle.matching.specs.declared.request.Kind.the-variants as Kind
 use Rattle.matching.specs.declared.request.Arrival.{Arrival}
 use Rattle.portals.specs.Sizes.{MEMORY, EVENTS}
-use Rattle.portals.specs.View.{View, emptyView, withQueue}
-use Rattle.portals.specs.Refusals.{soundView, Condition}
+use Rattle.portals.specs.View.{View, emptyView}
+use Rattle.portals.specs.Refusals.{Condition}
 use Rattle.portals.specs.Answers.{Answer, MADE, PRIORITY, OVERFLOW, isRefused}
 use Rattle.portals.specs.Outcome.{Outcome, refusal, guarded}
 use Rattle.portals.specs.Making.{notMade, badSetting, new}
@@ -31,7 +31,6 @@ use Rattle.portals.specs.EarlyMessages.{Walk, appendBy, foundOnce, taken
 use Rattle.portals.specs.Calls.{Call, CallLaws, Handles, linked, taken, refused, stateAfter, answerTo}
 use Rattle.portals.specs.Calls as calls
 use Rattle.portals.specs.declared.layout.Settings.{Settings}
-use Rattle.portals.specs.declared.layout.HeldEntry.{HeldEntry}
 use Rattle.portals.specs.declared.layout.Header.{Header}
 use Rattle.portals.specs.declared.layout.Event.{Event}
 use Rattle.portals.specs.declared.layout.CounterChange.{CounterChange}

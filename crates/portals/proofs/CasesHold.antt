@@ -4,7 +4,6 @@ use mathlib.Core.Bool.{Bool, true, false, _&&_}
 use Prim.Native.Nat.{ℕ, _-_}
 use native.Mathlib.Omega.{arith}
 use borrow.Author.Tests.{le-ltb}
-use lib.Dec.{ltb}
 use Rattle.matching.specs.Bits.{isSet}
 use Rattle.matching.specs.Entry.{USE-ONCE, MANAGE-LOCAL}
 use Rattle.matching.specs.Entry.{badEntryArgument}

@@ -1,10 +1,10 @@
 -- Append, unlink and search leave a sound state sound.
-use mathlib.Core.Path.{_≡_, refl, sym, _∙_}
-use mathlib.Core.Bool.{Bool, true, false, _&&_, _||_, not, cond, true≢false, false≢true}
+use mathlib.Core.Path.{_≡_, refl}
+use mathlib.Core.Bool.{Bool, true, false, _&&_, _||_, not}
 use mathlib.Core.List.{List, [], _∷_, _++_, map}
 use Prim.Native.Nat.{ℕ, _+_, _≤_, _<_}
 use native.Mathlib.Omega.{arith}
-use borrow.Author.Tests.{not-true, ltb-true, leb-true, le-leb, eqb-true, eqb-false, ne-eqb, eq-eqb}
+use borrow.Author.Tests.{not-true, ltb-true, leb-true, le-leb, eqb-true}
 use lib.Dec.{eqb, leb, ltb}
 use lib.ListN.{length}
 use Rattle.matching.specs.Bits.{isSet}
@@ -13,15 +13,15 @@ use Rattle.matching.specs.Entry.{MANAGE-LOCAL, badEntryArgument}
 use Rattle.matching.specs.EarlyMessages.{takesHeaders}
 use Rattle.matching.specs.declared.layout.Entry.{Entry}
 use Rattle.portals.specs.Lists.{every, any, select, withoutFirst}
-use Rattle.portals.specs.Sizes.{SLOTS, HEADERS, EVENTS, LAST-HANDLE}
-use Rattle.portals.specs.View.{View, isRetired, withEntries, withHeaders, withQueue, withLast}
+use Rattle.portals.specs.Sizes.{SLOTS, LAST-HANDLE}
+use Rattle.portals.specs.View.{View, isRetired, withEntries, withHeaders}
 use Rattle.portals.specs.Refusals.{hasHandle, handleGiven, localKept, entrySound, waitsIn, holds, bytesInside, lengthsKept, headerSound, keepsSlot}
-use Rattle.portals.specs.Outcome.{Outcome, refusal}
-use Rattle.portals.specs.Events.{Issued, linkEvent, searchEvent, post, postAll}
-use Rattle.portals.specs.EarlyMessages.{fitsHeader, Walk, walk, walkFor, usesOnce, foundOnce, handOutEvents, handedOut, takenBy, tookAll, nextHandle, linked, appendBy, appended, hasSpace, appendTests, append, isLinkedAs, badHandleArgument, unlinkTests, unlink, closingEvents, lookedAt, deleted, searched, searchTests, search}
+use Rattle.portals.specs.Outcome.{refusal}
+use Rattle.portals.specs.Events.{linkEvent, searchEvent, postAll}
+use Rattle.portals.specs.EarlyMessages.{fitsHeader, Walk, walk, walkFor, usesOnce, foundOnce, handOutEvents, handedOut, takenBy, tookAll, nextHandle, linked, appendBy, appendTests, append, isLinkedAs, unlinkTests, unlink, closingEvents, lookedAt, deleted, searchTests, search}
 use Rattle.portals.specs.declared.layout.HeldEntry.{HeldEntry}
 use Rattle.portals.specs.declared.layout.Header.{Header}
-use Rattle.portals.proofs.ListLaws.{both, joined, or-left, or-right, or-map, cond-cases, every-join, every-imply, every-imply-none, every-selected, Part, part-all, part-select, part-selectNot, part-withoutFirst, part-length, part-every, any-select, any-withoutFirst, any-join, join-fits}
+use Rattle.portals.proofs.ListLaws.{both, joined, or-left, or-right, cond-cases, every-join, every-imply, every-imply-none, every-selected, Part, part-all, part-select, part-selectNot, part-withoutFirst, part-length, part-every, any-select, any-withoutFirst, any-join, join-fits}
 use Rattle.portals.proofs.GuardLaws.{guard-cases}
 use Rattle.portals.proofs.SoundLaws.{Sound, distinct-part, distinct-join, handle-new}
 use Rattle.portals.proofs.KeptLaws.{Held, held-kept, counters-kept, queue-kept, post-fits, post-all-fits}

@@ -1,9 +1,8 @@
 -- Soundness is kept by a change of one part.
-use mathlib.Core.Path.{_≡_, refl, sym, _∙_}
-use mathlib.Core.Bool.{Bool, true, false, _&&_, _||_, not, cond}
-use mathlib.Core.List.{List, [], _∷_, _++_}
-use Prim.Native.Nat.{ℕ, _+_, _≤_, _<_}
-use native.Mathlib.Omega.{arith}
+use mathlib.Core.Path.{_≡_, refl}
+use mathlib.Core.Bool.{Bool, true, false, not}
+use mathlib.Core.List.{List, [], _∷_}
+use Prim.Native.Nat.{ℕ, _≤_}
 use borrow.Author.Tests.{ltb-true}
 use lib.Dec.{ltb}
 use lib.ListN.{length}
@@ -11,7 +10,7 @@ use Rattle.portals.specs.Lists.{every}
 use Rattle.portals.specs.Sizes.{SLOTS, HEADERS, EVENTS}
 use Rattle.portals.specs.View.{View, EventQueue, withEntries, withHeaders, withQueue, withCounters, withRegisters}
 use Rattle.portals.specs.Refusals.{distinct, entrySound, headerSound, keepsSlot}
-use Rattle.portals.specs.Events.{Issued, withGap, gapOf, isDisabled, postBy, post, postAll, readEvent}
+use Rattle.portals.specs.Events.{Issued, withGap, gapOf, isDisabled, postBy, post, postAll}
 use Rattle.portals.specs.declared.layout.HeldEntry.{HeldEntry}
 use Rattle.portals.specs.declared.layout.Header.{Header}
 use Rattle.portals.specs.declared.layout.Event.{Event}
@@ -22,32 +21,11 @@ use Rattle.portals.proofs.SoundLaws.{Sound}
 
 -- ## The parts that soundness does not read, or of which it only asks the length
 
-pub counters-kept : (v : View) (counters : List Counter) → Sound v → Sound (withCounters v counters)
-counters-kept v counters s = record {
-  size = s .size;
-  slots = s .slots;
-  waiting = s .waiting;
-  queued = s .queued;
-  handles = s .handles;
-  entries = s .entries;
-  headers = s .headers;
-  retired = s .retired;
-}
-
-pub registers-kept : (v : View) (registers : Registers) → Sound v → Sound (withRegisters v registers)
-registers-kept v registers s = record {
-  size = s .size;
-  slots = s .slots;
-  waiting = s .waiting;
-  queued = s .queued;
-  handles = s .handles;
-  entries = s .entries;
-  headers = s .headers;
-  retired = s .retired;
-}
-
-pub queue-kept : (v : View) (queue : EventQueue) → Sound v → length (queue .events) ≤ EVENTS → Sound (withQueue v queue)
-queue-kept v queue s room = record {
+pub rest-kept : (v : View) (queue : EventQueue) (counters : List Counter) (registers : Registers)
+    → Sound v
+    → length (queue .events) ≤ EVENTS
+    → Sound (withRegisters (withCounters (withQueue v queue) counters) registers)
+rest-kept v queue counters registers s room = record {
   size = s .size;
   slots = s .slots;
   waiting = s .waiting;
@@ -57,6 +35,15 @@ queue-kept v queue s room = record {
   headers = s .headers;
   retired = s .retired;
 }
+
+pub counters-kept : (v : View) (counters : List Counter) → Sound v → Sound (withCounters v counters)
+counters-kept v counters s = rest-kept v (v .queue) counters (v .registers) s (s .queued)
+
+pub registers-kept : (v : View) (registers : Registers) → Sound v → Sound (withRegisters v registers)
+registers-kept v registers s = rest-kept v (v .queue) (v .counters) registers s (s .queued)
+
+pub queue-kept : (v : View) (queue : EventQueue) → Sound v → length (queue .events) ≤ EVENTS → Sound (withQueue v queue)
+queue-kept v queue s room = rest-kept v queue (v .counters) (v .registers) s room
 
 -- ## Events
 

@@ -7,7 +7,7 @@ use Prim.Native.Nat.{ℕ, zero, suc, _+_, _-_, _≤_, _<_}
 use native.Mathlib.Omega.{arith}
 use borrow.Author.Tests.{not-true}
 use lib.ListN.{length, set, getD, length-append}
-use Rattle.portals.specs.Lists.{every, any, select, selectNot, firstOnly, withoutFirst, firstFrom, removeAt}
+use Rattle.portals.specs.Lists.{every, any, select, selectNot, withoutFirst, firstFrom, removeAt}
 
 -- ## Tests
 

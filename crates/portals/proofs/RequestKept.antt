@@ -2,12 +2,12 @@
 use mathlib.Core.Path.{_≡_, refl, sym, _∙_, subst}
 use mathlib.Core.Bool.{Bool, true, false, _&&_, _||_, not, cond, true≢false, false≢true}
 use mathlib.Core.List.{List, [], _∷_, _++_}
-use mathlib.Core.Option.{Option, none, some}
+use mathlib.Core.Option.{none}
 use Prim.Native.Nat.{ℕ, _+_, _≤_, _<_}
 use native.Mathlib.Omega.{arith}
 use borrow.Author.Tests.{not-true, ltb-true, leb-true, le-leb, eqb-true, eq-eqb, ne-eqb}
 use lib.Dec.{eqb, leb, ltb}
-use lib.ListN.{length, set, getD, length-set}
+use lib.ListN.{length, set, length-set}
 use Rattle.matching.specs.Bits.{isSet}
 use Rattle.matching.specs.Refusals.{noneBad}
 use Rattle.matching.specs.Entry.{ANY, MANAGE-LOCAL, badEntryArgument}
@@ -24,10 +24,10 @@ use Rattle.matching.specs.declared.request.Verdict.{Verdict}
 use Rattle.matching.specs.declared.request.Verdict.the-variants as Verdict
 use Rattle.matching.proofs.RequestLaws.{accepted-requested, place-start, place-end, local-stays, local-length}
 use Rattle.portals.specs.Lists.{every, any, firstFrom, removeAt}
-use Rattle.portals.specs.Sizes.{MEMORY, SLOTS, HEADERS, EVENTS}
-use Rattle.portals.specs.View.{View, isRetired, zeroEntry, withEntries, withHeaders, withQueue, withCounters, withRegisters}
+use Rattle.portals.specs.Sizes.{MEMORY, HEADERS}
+use Rattle.portals.specs.View.{View, isRetired, zeroEntry, withEntries, withHeaders, withQueue}
 use Rattle.portals.specs.Refusals.{handleGiven, localKept, entrySound, waitsIn, holds, bytesInside, lengthsKept, headerSound, keepsSlot}
-use Rattle.portals.specs.Outcome.{Outcome, refusal}
+use Rattle.portals.specs.Outcome.{refusal}
 use Rattle.portals.specs.Events.{postAll}
 use Rattle.portals.specs.Request.{isIn, isCandidate, orElse, choose, entryAt, hasRoom, decideBy, decideAt, decideOn, decide, message, entryAfter, entriesAfter, headersAfter, requestEvents, delivered, requestState, requestTests, put, get}
 use Rattle.portals.specs.declared.layout.HeldEntry.{HeldEntry}
@@ -36,7 +36,7 @@ use Rattle.portals.specs.declared.requests.Choice.{Choice}
 use Rattle.portals.specs.declared.requests.Choice.the-variants as Choice
 use Rattle.portals.specs.declared.requests.Decision.{Decision}
 use Rattle.portals.specs.declared.requests.Decision.the-variants as Decision
-use Rattle.portals.proofs.ListLaws.{both, joined, or-left, or-right, or-map, or-other, cond-cases, every-at, every-set, every-join, every-imply, part-removeAt, part-length, part-every, any-at, any-set, any-removeAt, any-join, any-last, join-fits, get-set, Found, first-cases, first-none}
+use Rattle.portals.proofs.ListLaws.{both, joined, or-left, or-right, or-map, or-other, every-at, every-set, every-join, every-imply, part-removeAt, part-length, part-every, any-at, any-set, any-removeAt, any-join, any-last, join-fits, get-set, Found, first-cases, first-none}
 use Rattle.portals.proofs.GuardLaws.{guard-cases}
 use Rattle.portals.proofs.SoundLaws.{Sound, distinct-part, distinct-set}
 use Rattle.portals.proofs.KeptLaws.{Held, held-kept, counters-kept, registers-kept, queue-kept, post-all-fits}

@@ -1,21 +1,20 @@
 -- Soundness as facts, one for each thing that document 01 asks, and what keeps each of them.
-use mathlib.Core.Path.{_≡_, refl, sym, _∙_}
-use mathlib.Core.Bool.{Bool, true, false, _&&_, _||_, not}
+use mathlib.Core.Path.{_≡_, refl, sym}
+use mathlib.Core.Bool.{true, false, _&&_, not}
 use mathlib.Core.List.{List, [], _∷_, _++_}
 use Prim.Native.Nat.{ℕ, zero, suc, _+_, _≤_, _<_}
 use native.Mathlib.Omega.{arith}
-use borrow.Author.Tests.{not-true, not-false, leb-true, le-leb, eqb-false, ne-eqb, eq-eqb, eqb-true}
+use borrow.Author.Tests.{not-true, leb-true, le-leb, eqb-false, ne-eqb}
 use lib.Dec.{eqb, leb}
 use lib.ListN.{length, set, getD}
 use Rattle.matching.specs.Refusals.{noneBad}
 use Rattle.matching.specs.Entry.{badEntryArgument}
-use Rattle.portals.specs.Lists.{every, any, select}
+use Rattle.portals.specs.Lists.{every, any}
 use Rattle.portals.specs.Sizes.{MEMORY, SLOTS, HEADERS, EVENTS}
 use Rattle.portals.specs.View.{View}
-use Rattle.portals.specs.Refusals.{sizesKept, hasHandle, distinct, handleGiven, localKept, entrySound, waitsIn, holds, headerSound, lengthsKept, keepsSlot, soundView}
+use Rattle.portals.specs.Refusals.{sizesKept, hasHandle, distinct, handleGiven, localKept, entrySound, headerSound, keepsSlot, soundView}
 use Rattle.portals.specs.declared.layout.HeldEntry.{HeldEntry}
-use Rattle.portals.specs.declared.layout.Header.{Header}
-use Rattle.portals.proofs.ListLaws.{both, joined, or-left, or-right, neither, Part, nothing, keeps, leaves, part-none, part-any, any-select, any-join}
+use Rattle.portals.proofs.ListLaws.{both, neither, Part, nothing, keeps, leaves, part-none}
 
 pub record Sound (v : View) : Type 0 where
   pub size : v .size ≤ MEMORY

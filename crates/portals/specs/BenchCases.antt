@@ -14,13 +14,12 @@ use Rattle.matching.specs.declared.request.Kind.the-variants as Kind
 use Rattle.matching.specs.declared.request.Arrival.{Arrival}
 use Rattle.portals.specs.View.{View, EventQueue, emptyView, withLast, withEntries, withHeaders, withQueue}
 use Rattle.portals.specs.Refusals.{soundView}
-use Rattle.portals.specs.Answers.{Answer, REFUSED, LINKED, PRIORITY, OVERFLOW, DROPPED, PERM, OP, COUNTER}
+use Rattle.portals.specs.Answers.{Answer, REFUSED, LINKED, OVERFLOW, DROPPED, PERM, OP, COUNTER}
 use Rattle.portals.specs.Events.{Issued, linkEvent, post, readEvent}
 use Rattle.portals.specs.Counters.{setCounter, increment, readCounter}
 use Rattle.portals.specs.Request.{message, put}
 use Rattle.portals.specs.EarlyMessages.{append}
 use Rattle.portals.specs.declared.layout.HeldEntry.{HeldEntry}
-use Rattle.portals.specs.declared.layout.Header.{Header}
 use Rattle.portals.specs.declared.layout.Event.{Event}
 use Rattle.portals.specs.declared.layout.Registers.{Registers}
 use Rattle.portals.specs.declared.layout.CounterChange.{CounterChange}

@@ -1,9 +1,9 @@
 -- Document 01, "Events", its last paragraph: counting events and status registers.
-use mathlib.Core.Bool.{Bool, true, false, _&&_, _||_, not, cond}
+use mathlib.Core.Bool.{Bool, _||_, not, cond}
 use mathlib.Core.List.{List, [], _∷_}
 use mathlib.Core.Option.{Option, none, some}
 use Prim.Native.Nat.{ℕ, zero, suc, _+_, _^_, _%_}
-use lib.Dec.{eqb, leb, ltb}
+use lib.Dec.{eqb, leb}
 use lib.ListN.{length, set, getD}
 use Rattle.matching.specs.Refusals.{firstBad, noneBad}
 use Rattle.matching.specs.Entry.{isCounter}

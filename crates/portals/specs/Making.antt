@@ -1,7 +1,5 @@
 -- Making a target, from what is settled for it.
-use mathlib.Core.Bool.{Bool, true, false}
 use mathlib.Core.List.{[], _∷_}
-use Prim.Native.Nat.{ℕ}
 use lib.Dec.{leb}
 use Rattle.matching.specs.Refusals.{firstBad, noneBad}
 use Rattle.matching.specs.declared.refusals.Refusal.{Refusal}
@@ -10,7 +8,7 @@ use Rattle.matching.specs.declared.refusals.BadArgument.{BadArgument}
 use Rattle.matching.specs.declared.refusals.BadArgument.the-variants as BadArgument
 use Rattle.portals.specs.Sizes.{MEMORY}
 use Rattle.portals.specs.View.{View, emptyView}
-use Rattle.portals.specs.Refusals.{Condition, unlessRefused}
+use Rattle.portals.specs.Refusals.{unlessRefused}
 use Rattle.portals.specs.Answers.{MADE, refused}
 use Rattle.portals.specs.Outcome.{Outcome}
 use Rattle.portals.specs.declared.layout.Settings.{Settings}

@@ -9,7 +9,6 @@ use Rattle.matching.specs.Refusals.{noneBad}
 use Rattle.matching.specs.Request.{badRequestArgument, arrivalOf, offsetUsed, matches, verdictOn, accepted, place, localAfter, unlinks, ackAsked, ackGiven}
 use Rattle.matching.specs.EarlyMessages.{takesHeaders}
 use Rattle.matching.specs.Counters.{commAmount}
-use Rattle.matching.specs.declared.layout.Entry.{Entry}
 use Rattle.matching.specs.declared.layout.Request.{Request}
 use Rattle.matching.specs.declared.request.Kind.{Kind}
 use Rattle.matching.specs.declared.request.Kind.the-variants as Kind

@@ -5,7 +5,6 @@ use mathlib.Core.List.{List, []}
 use Prim.Native.Nat.{ℕ, _%_}
 use lib.Dec.{eqb}
 use lib.ListN.{take, replicate}
-use Rattle.matching.specs.declared.layout.Entry.{Entry}
 use Rattle.portals.specs.Lists.{ringOf}
 use Rattle.portals.specs.Sizes.{SLOTS, HEADERS, EVENTS, COUNTERS}
 use Rattle.portals.specs.declared.layout.HeldEntry.{HeldEntry}
