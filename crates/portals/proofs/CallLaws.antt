@@ -8,7 +8,7 @@ use borrow.Author.Tests.{leb-true}
 use lib.Dec.{leb, eqb}
 use lib.ListN.{length}
 use Rattle.matching.specs.Refusals.{noneBad}
-use Rattle.matching.specs.Request.{arrivalOf, offsetUsed, accepted, ackGiven}
+use Rattle.matching.specs.Request.{arrivalOf, ackGiven}
 use Rattle.matching.specs.declared.layout.Entry.{Entry}
 use Rattle.matching.specs.declared.layout.Request.{Request}
 use Rattle.matching.specs.declared.refusals.Refusal.{Refusal}
@@ -26,7 +26,7 @@ use Rattle.portals.specs.Outcome.{Outcome, refusal, guarded}
 use Rattle.portals.specs.Making.{notMade, badSetting, new}
 use Rattle.portals.specs.Events.{oldest, readEvent}
 use Rattle.portals.specs.Counters.{counterTests, setCounter, increment}
-use Rattle.portals.specs.Request.{entryAt, decide, answerBy, requestState, requestTests, put, get}
+use Rattle.portals.specs.Request.{plan, decide, answerBy, requestState, requestTests, put, get}
 use Rattle.portals.specs.EarlyMessages.{Walk, appendBy, foundOnce, takenBy, appendTests, append, unlinkTests, unlink, lookedAt, deleted, walkFor, searched, searchTests, search}
 use Rattle.portals.specs.Calls.{Call, CallLaws, Handles, linked, taken, refused, stateAfter, answerTo}
 use Rattle.portals.specs.Calls as calls
@@ -152,16 +152,13 @@ module _ (v : View) where
   acceptance-answers true n offset ack = refl
   acceptance-answers false n offset ack = refl
 
-  request-answers : (a : Arrival) (ack : ℕ) (d : Decision) → isRefused (answerBy (v .entries) a ack d) ≡ false
-  request-answers a ack (Decision.Deliver k) =
-      let x = entryAt (v .entries) k in
-      acceptance-answers (eqb (x .entry .list) 0)
-      (accepted (x .entry) (x .local) a)
-      (offsetUsed (x .entry) (x .local) a)
-      (ackGiven (x .entry .options) (a .kind) ack)
-  request-answers a ack Decision.Drop = refl
-  request-answers a ack Decision.DenyPermission = refl
-  request-answers a ack Decision.DenyOperation = refl
+  request-answers : (portal : ℕ) (a : Arrival) (ack : ℕ) (d : Decision) → isRefused (answerBy v portal a ack d) ≡ false
+  request-answers portal a ack (Decision.Deliver k) =
+      let p = plan (v .entries) portal a k in
+      acceptance-answers (eqb (p .entry .entry .list) 0) (p .message .accepted) (p .offset) (ackGiven (p .entry .entry .options) (a .kind) ack)
+  request-answers portal a ack Decision.Drop = refl
+  request-answers portal a ack Decision.DenyPermission = refl
+  request-answers portal a ack Decision.DenyOperation = refl
 
   request-ascends : (portal : ℕ) (a : Arrival) (d : Decision) → v .last ≤ requestState v portal a d .last
   request-ascends portal a (Decision.Deliver k) = same
@@ -174,14 +171,14 @@ module _ (v : View) where
   put-orderly memory q payload =
       let a = arrivalOf q Kind.Put (length payload) in
       let d = decide (v .entries) (v .headers) (q .portal) a in
-      guarded-orderly v memory (requestTests v memory q (length payload)) _ (request-answers a (q .ack) d) (request-ascends (q .portal) a d)
+      guarded-orderly v memory (requestTests v memory q (length payload)) _ (request-answers (q .portal) a (q .ack) d) (request-ascends (q .portal) a d)
 
   get-orderly : (memory : List ℕ) (q : Request) (reply : List ℕ) → Orderly v reply (get v memory q reply)
   unfolding get
   get-orderly memory q reply =
       let a = arrivalOf q Kind.Get (length reply) in
       let d = decide (v .entries) (v .headers) (q .portal) a in
-      guarded-orderly v reply (requestTests v memory q (length reply)) _ (request-answers a (q .ack) d) (request-ascends (q .portal) a d)
+      guarded-orderly v reply (requestTests v memory q (length reply)) _ (request-answers (q .portal) a (q .ack) d) (request-ascends (q .portal) a d)
 
   oldest-orderly : (events : List Event) → Orderly v tt (oldest v events)
   oldest-orderly [] = guarded-orderly v tt [] (oldest v []) refl same

@@ -16,7 +16,7 @@ use Rattle.matching.specs.declared.request.Arrival.{Arrival}
 use Rattle.portals.specs.Refusals.{soundView}
 use Rattle.portals.specs.Events.{post, readEvent}
 use Rattle.portals.specs.Counters.{counted, setCounter, increment, readCounter}
-use Rattle.portals.specs.Request.{choose, decide, message, entryAfter, put}
+use Rattle.portals.specs.Request.{choose, decide, message, put}
 use Rattle.portals.specs.EarlyMessages.{walkFor, takenBy, append}
 use Rattle.portals.specs.BenchCases.{AllHold, done, _then_, table}
 
@@ -30,7 +30,7 @@ never-unlinks e local a free once =
     rw (once, le-ltb (e .length - localAfter e local a) (e .minfree) (omega arith)) (and-false (isSet (e .options) MANAGE-LOCAL))
 
 pub cases-hold : AllHold table
-unfolding badEntryArgument badRequestArgument offsetUsed available bitsAgree allowsLength matches verdictOn accepted place localAfter unlinks ackGiven takesHeaders fits disabled amount soundView post readEvent counted setCounter increment readCounter choose decide message entryAfter put walkFor takenBy append
+unfolding badEntryArgument badRequestArgument offsetUsed available bitsAgree allowsLength matches verdictOn accepted place localAfter unlinks ackGiven takesHeaders fits disabled amount soundView post readEvent counted setCounter increment readCounter choose decide message put walkFor takenBy append
 cases-hold =
     refl
     then refl

@@ -57,11 +57,6 @@ module _ {A : Type 0} (p : A → Bool) where
   every-at (y ∷ l) zero d h e = both (p y) (every p l) e .0
   every-at (y ∷ l) (suc k) d h e = every-at l k d (omega arith) (both (p y) (every p l) e .1)
 
-  pub every-removeAt : (l : List A) (k : ℕ) → every p l ≡ true → every p (removeAt k l) ≡ true
-  every-removeAt [] k e = refl
-  every-removeAt (y ∷ l) zero e = both (p y) (every p l) e .1
-  every-removeAt (y ∷ l) (suc k) e = let s = both (p y) (every p l) e in rw (s .0) (every-removeAt l k (s .1))
-
   pub every-imply : (q : A → Bool) (l : List A) → ((x : A) → p x ≡ true → q x ≡ true) → every p l ≡ true → every q l ≡ true
   every-imply q [] h e = refl
   every-imply q (x ∷ l) h e = let s = both (p x) (every p l) e in rw (h x (s .0)) (every-imply q l h (s .1))
@@ -130,11 +125,6 @@ module _ {A : Type 0} where
   part-every p (keeps {x} {l} {m} h) e = let s = both (p x) (every p m) e in rw (s .0) (part-every p h (s .1))
   part-every p (leaves {x} {l} {m} h) e = part-every p h (both (p x) (every p m) e .1)
 
-  pub part-any : (p : A → Bool) {l m : List A} → Part l m → any p l ≡ true → any p m ≡ true
-  part-any p nothing e = e
-  part-any p (keeps {x} {l} {m} h) e = or-map (p x) (any p l) (any p m) (part-any p h) e
-  part-any p (leaves {x} {l} {m} h) e = or-right (p x) (any p m) (part-any p h e)
-
   pub part-none : (p : A → Bool) {l m : List A} → Part l m → any p m ≡ false → any p l ≡ false
   part-none p nothing e = refl
   part-none p (keeps {x} {l} {m} h) e = let n = neither (p x) (any p m) e in rw (n .0) (part-none p h (n .1))
@@ -183,11 +173,6 @@ module _ {A : Type 0} (p : A → Bool) where
       cond-cases (λ k. any p k ≡ true) (q x) l (x ∷ withoutFirst q l)
       (λ gone. or-other (p x) (any p l) (λ passes. true≢false (sym passes ∙ h x gone)) e)
       (λ stays. or-map (p x) (any p l) (any p (withoutFirst q l)) (any-withoutFirst q l h) e)
-
-  pub none-of : (l : List A) (k : ℕ) (d : A) → k < length l → any p l ≡ false → p (getD l k d) ≡ false
-  none-of [] k d h e = absurd (omega arith)
-  none-of (y ∷ l) zero d h e = neither (p y) (any p l) e .0
-  none-of (y ∷ l) (suc k) d h e = none-of l k d (omega arith) (neither (p y) (any p l) e .1)
 
 -- ## Lengths
 

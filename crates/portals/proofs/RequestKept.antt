@@ -29,13 +29,14 @@ use Rattle.portals.specs.View.{View, isRetired, zeroEntry, withEntries, 
 use Rattle.portals.specs.Refusals.{handleGiven, localKept, entrySound, waitsIn, holds, bytesInside, lengthsKept, headerSound, keepsSlot}
 use Rattle.portals.specs.Outcome.{refusal}
 use Rattle.portals.specs.Events.{postAll}
-use Rattle.portals.specs.Request.{isIn, isCandidate, orElse, choose, entryAt, hasRoom, decideBy, decideAt, decideOn, decide, message, entryAfter, entriesAfter, headersAfter, requestEvents, delivered, requestState, requestTests, put, get}
+use Rattle.portals.specs.Request.{isIn, isCandidate, orElse, choose, entryAt, hasRoom, decideBy, decideAt, decideOn, decide, message, planFor, plan, requestEvents, entryAfter, entriesAfter, headersAfter, countersAfter, delivered, requestState, requestTests, put, get}
 use Rattle.portals.specs.declared.layout.HeldEntry.{HeldEntry}
 use Rattle.portals.specs.declared.layout.Header.{Header}
 use Rattle.portals.specs.declared.requests.Choice.{Choice}
 use Rattle.portals.specs.declared.requests.Choice.the-variants as Choice
 use Rattle.portals.specs.declared.requests.Decision.{Decision}
 use Rattle.portals.specs.declared.requests.Decision.the-variants as Decision
+use Rattle.portals.specs.declared.requests.Plan.{Plan}
 use Rattle.portals.proofs.ListLaws.{both, joined, or-left, or-right, or-map, or-other, every-at, every-set, every-join, every-imply, part-removeAt, part-length, part-every, any-at, any-set, any-removeAt, any-join, any-last, join-fits, get-set, Found, first-cases, first-none}
 use Rattle.portals.proofs.GuardLaws.{guard-cases}
 use Rattle.portals.proofs.SoundLaws.{Sound, distinct-part, distinct-set}
@@ -129,9 +130,8 @@ none-beyond v portal a s above =
 
 -- ## The entry after the request
 
-module _ (size last : ℕ) (x : HeldEntry) (a : Arrival) where
-  local-kept : (managed : Bool) → isSet (x .entry .options) MANAGE-LOCAL ≡ managed → localKept x ≡ true → localKept (entryAfter x a) ≡ true
-  unfolding entryAfter
+module _ (size last : ℕ) (x : HeldEntry) (k portal : ℕ) (a : Arrival) where
+  local-kept : (managed : Bool) → isSet (x .entry .options) MANAGE-LOCAL ≡ managed → localKept x ≡ true → localKept (entryAfter (planFor x k portal a)) ≡ true
   local-kept managed m e =
       let s = both (leb (x .local) (x .entry .length)) (isSet (x .entry .options) MANAGE-LOCAL || eqb (x .local) 0) e in
       let n = leb-true (x .local) (x .entry .length) (s .0) in
@@ -139,18 +139,18 @@ module _ (size last : ℕ) (x : HeldEntry) (a : Arrival) where
       (le-leb (localAfter (x .entry) (x .local) a) (x .entry .length) (local-length (x .entry) (x .local) a n))
       (by managed m (s .1))
     where
-      by : (managed : Bool) → isSet (x .entry .options) MANAGE-LOCAL ≡ managed
+      by : (managed : Bool)
+          → isSet (x .entry .options) MANAGE-LOCAL ≡ managed
           → (isSet (x .entry .options) MANAGE-LOCAL || eqb (x .local) 0) ≡ true
           → (isSet (x .entry .options) MANAGE-LOCAL || eqb (localAfter (x .entry) (x .local) a) 0) ≡ true
       by true m e = or-left (isSet (x .entry .options) MANAGE-LOCAL) (eqb (localAfter (x .entry) (x .local) a) 0) m
       by false m e = rw (local-stays (x .entry) (x .local) a m) e
 
   -- it keeps its entry and its handle, and its offset stays in bounds
-  entry-kept : entrySound size last x ≡ true → entrySound size last (entryAfter x a) ≡ true
-  unfolding entryAfter
+  entry-kept : entrySound size last x ≡ true → entrySound size last (entryAfter (planFor x k portal a)) ≡ true
   entry-kept e =
       let s = both (handleGiven last x && noneBad (badEntryArgument (x .entry) size)) (localKept x) e in
-      joined (handleGiven last x && noneBad (badEntryArgument (x .entry) size)) (localKept (entryAfter x a)) (s .0)
+      joined (handleGiven last x && noneBad (badEntryArgument (x .entry) size)) (localKept (entryAfter (planFor x k portal a))) (s .0)
       (local-kept (isSet (x .entry .options) MANAGE-LOCAL) refl (s .1))
 
 -- its message lies inside its region
@@ -175,10 +175,6 @@ message-lengths x portal a h =
       le-leb (a .requested) MEMORY h,
     )
 
-holds-entry : (h : Header) (x : HeldEntry) (a : Arrival) → holds h (entryAfter x a) ≡ holds h x
-unfolding entryAfter
-holds-entry h x a = refl
-
 -- an entry that takes no headers holds none
 holds-none : (h : Header) (x : HeldEntry) → takesHeaders (x .entry) ≡ false → holds h x ≡ false
 holds-none h x t = rw t (off (waitsIn x h && eqb (x .entry .portal) (h .portal)) (bytesInside x h))
@@ -192,6 +188,9 @@ holds-none h x t = rw t (off (waitsIn x h && eqb (x .entry .portal) (h .portal))
 module _ (v : View) (sound : Sound v) (portal : ℕ) (a : Arrival) (k : ℕ) (chosen : Chosen (v .entries) (v .headers) portal a k) (size : a .requested ≤ MEMORY) where
   abbrev it : HeldEntry
   it = entryAt (v .entries) k
+
+  abbrev planned : Plan
+  planned = plan (v .entries) portal a k
 
   abbrev its : Header
   its = message it portal a
@@ -216,32 +215,28 @@ module _ (v : View) (sound : Sound v) (portal : ℕ) (a : Arrival) (k : ℕ) (ch
 
   -- the entry in its place after the request
   abbrev placed : List HeldEntry
-  placed = set (v .entries) k (entryAfter it a)
-
-  same-handle : entryAfter it a .handle ≡ it .handle
-  unfolding entryAfter
-  same-handle = refl
+  placed = set (v .entries) k (entryAfter planned)
 
   -- it stays, linked or retired, and the headers are those that wait after the request
   stays : (headers : List Header) → length headers ≤ HEADERS
       → every (headerSound placed) headers ≡ true
       → ((x : HeldEntry) → keepsSlot (v .headers) x ≡ true → keepsSlot headers x ≡ true)
-      → keepsSlot headers (entryAfter it a) ≡ true
+      → keepsSlot headers (entryAfter planned) ≡ true
       → Held (v .size) (v .last) placed headers
   stays headers room inside more own =
-      let l = length-set (v .entries) k (entryAfter it a) in
+      let l = length-set (v .entries) k (entryAfter planned) in
       let n = sound .slots in
       record {
         slots = omega arith;
         waiting = room;
-        handles = distinct-set (v .entries) k zeroEntry (entryAfter it a) same-handle (sound .handles);
+        handles = distinct-set (v .entries) k zeroEntry (entryAfter planned) refl (sound .handles);
         entriesSound =
-            every-set (entrySound (v .size) (v .last)) (v .entries) k (entryAfter it a) (sound .entries)
-            (entry-kept (v .size) (v .last) it a
+            every-set (entrySound (v .size) (v .last)) (v .entries) k (entryAfter planned) (sound .entries)
+            (entry-kept (v .size) (v .last) it k portal a
             (every-at (entrySound (v .size) (v .last)) (v .entries) k zeroEntry (chosen .inside) (sound .entries)));
         headersSound = inside;
         retired =
-            every-set (keepsSlot headers) (v .entries) k (entryAfter it a)
+            every-set (keepsSlot headers) (v .entries) k (entryAfter planned)
             (every-imply (keepsSlot (v .headers)) (keepsSlot headers) (v .entries) more (sound .retired))
             own;
       }
@@ -250,7 +245,7 @@ module _ (v : View) (sound : Sound v) (portal : ℕ) (a : Arrival) (k : ℕ) (ch
   waited : every (headerSound placed) (v .headers) ≡ true
   waited =
       every-imply (headerSound (v .entries)) (headerSound placed) (v .headers)
-      (λ h e. rw (any-set (holds h) (v .entries) k zeroEntry (entryAfter it a) (holds-entry h it a)) e)
+      (λ h e. rw (any-set (holds h) (v .entries) k zeroEntry (entryAfter planned) refl) e)
       (sound .headers)
 
   -- its header finds a place, names it, and waits in it
@@ -263,14 +258,14 @@ module _ (v : View) (sound : Sound v) (portal : ℕ) (a : Arrival) (k : ℕ) (ch
 
   named : takesHeaders (it .entry) ≡ true → any (holds its) placed ≡ true
   named t =
-      let l = length-set (v .entries) k (entryAfter it a) in
+      let l = length-set (v .entries) k (entryAfter planned) in
       let n = chosen .inside in
       any-at (holds its) placed k zeroEntry (omega arith)
-      (rw (get-set (v .entries) k zeroEntry (entryAfter it a) (chosen .inside), holds-entry its it a)
+      (rw (get-set (v .entries) k zeroEntry (entryAfter planned) (chosen .inside))
       (message-held it portal a (chosen .portalOf) t))
 
-  waits-there : waitsIn (entryAfter it a) its ≡ true
-  unfolding entryAfter message
+  waits-there : waitsIn (entryAfter planned) its ≡ true
+  unfolding message
   waits-there = eq-eqb (it .handle) (it .handle) refl
 
   -- with its header
@@ -282,18 +277,17 @@ module _ (v : View) (sound : Sound v) (portal : ℕ) (a : Arrival) (k : ℕ) (ch
       (joined (any (holds its) placed) (lengthsKept its) (named t) (message-lengths it portal a size)))
       (λ x e. or-map (not (isRetired x)) (any (waitsIn x) (v .headers)) (any (waitsIn x) (v .headers ++ (its ∷ [])))
       (any-join (waitsIn x) (v .headers) its) e)
-      (or-right (not (isRetired (entryAfter it a))) (any (waitsIn (entryAfter it a)) (v .headers ++ (its ∷ [])))
-      (any-last (waitsIn (entryAfter it a)) (v .headers) its waits-there))
+      (or-right (not (isRetired (entryAfter planned))) (any (waitsIn (entryAfter planned)) (v .headers ++ (its ∷ [])))
+      (any-last (waitsIn (entryAfter planned)) (v .headers) its waits-there))
 
-  still-linked : unlinks (it .entry) (it .local) a ≡ false → not (isRetired (entryAfter it a)) ≡ true
-  unfolding entryAfter
+  still-linked : unlinks (it .entry) (it .local) a ≡ false → not (isRetired (entryAfter planned)) ≡ true
   still-linked u = rw u
 
   -- without one, and linked
   remains : unlinks (it .entry) (it .local) a ≡ false → Held (v .size) (v .last) placed (v .headers)
   remains u =
       stays (v .headers) (sound .waiting) waited (λ x e. e)
-      (or-left (not (isRetired (entryAfter it a))) (any (waitsIn (entryAfter it a)) (v .headers)) (still-linked u))
+      (or-left (not (isRetired (entryAfter planned))) (any (waitsIn (entryAfter planned)) (v .headers)) (still-linked u))
 
   held-by : (takes unlinked : Bool) → takesHeaders (it .entry) ≡ takes → unlinks (it .entry) (it .local) a ≡ unlinked
       → Held (v .size) (v .last) (cond (unlinked && not takes) (removeAt k (v .entries)) placed) (cond takes (v .headers ++ (its ∷ [])) (v .headers))
@@ -302,13 +296,14 @@ module _ (v : View) (sound : Sound v) (portal : ℕ) (a : Arrival) (k : ℕ) (ch
   held-by false true t u = freed t
   held-by false false t u = remains u
 
-  pub delivered-sound : Sound (delivered v it its k a)
+  pub delivered-sound : Sound (delivered v planned)
   delivered-sound =
-      let w = withHeaders (withEntries v (entriesAfter (v .entries) k a)) (headersAfter (v .headers) it its) in
-      let q = postAll (v .queue) (requestEvents it its a) in
-      let s = held-kept v (entriesAfter (v .entries) k a) (headersAfter (v .headers) it its) sound (held-by (takesHeaders (it .entry)) (unlinks (it .entry) (it .local) a) refl refl) in
-      counters-kept (withQueue w q) _
-      (queue-kept w q s (post-all-fits (v .queue) (requestEvents it its a) (sound .queued)))
+      let w = withHeaders (withEntries v (entriesAfter (v .entries) planned)) (headersAfter (v .headers) planned) in
+      let q = postAll (v .queue) (requestEvents planned) in
+      let h = held-by (takesHeaders (it .entry)) (unlinks (it .entry) (it .local) a) refl refl in
+      counters-kept (withQueue w q) (countersAfter (v .counters) planned)
+      (queue-kept w q (held-kept v (entriesAfter (v .entries) planned) (headersAfter (v .headers) planned) sound h)
+      (post-all-fits (v .queue) (requestEvents planned) (sound .queued)))
 
 -- ## The calls
 

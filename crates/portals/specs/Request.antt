@@ -1,4 +1,5 @@
--- Document 01, "Request", over the lists and the memory. A request is chosen an entry for, then decided on, then delivered or not.
+-- Document 01, "Request", over the lists and the memory. An entry is chosen for a request, it is decided what becomes of it, a delivery
+-- is planned, and then carried out.
 use mathlib.Core.Bool.{Bool, true, false, _&&_, _||_, not, cond}
 use mathlib.Core.List.{List, [], _∷_, _++_}
 use mathlib.Core.Option.{Option, none, some}
@@ -28,10 +29,12 @@ use Rattle.portals.specs.Events.{Issued, arrivalEvent, autoUnlinkEvent, 
 use Rattle.portals.specs.Counters.{counted, oneDropped, onePermission, oneOperation}
 use Rattle.portals.specs.declared.layout.HeldEntry.{HeldEntry}
 use Rattle.portals.specs.declared.layout.Header.{Header}
+use Rattle.portals.specs.declared.layout.Counter.{Counter}
 use Rattle.portals.specs.declared.requests.Choice.{Choice}
 use Rattle.portals.specs.declared.requests.Choice.the-variants as Choice
 use Rattle.portals.specs.declared.requests.Decision.{Decision}
 use Rattle.portals.specs.declared.requests.Decision.the-variants as Decision
+use Rattle.portals.specs.declared.requests.Plan.{Plan}
 
 -- ## Rule 3
 
@@ -85,7 +88,7 @@ decideOn entries headers a Choice.Nothing = Decision.Drop
 unfoldable pub decide : List HeldEntry → List Header → ℕ → Arrival → Decision
 decide entries headers portal a = decideOn entries headers a (choose entries portal a)
 
--- ## Rules 5 to 7: what a delivery to an entry does
+-- ## Rules 5 to 7: the plan of a delivery
 
 -- the message as the entry accepts it, with accepted length and place
 unfoldable pub message : HeldEntry → ℕ → Arrival → Header
@@ -104,89 +107,96 @@ message x portal a = record {
   hdrdata = a .hdrdata;
 }
 
--- rule 6, "offset grows by the accepted length", and rule 7, "the entry unlinks"
-unfoldable pub entryAfter : HeldEntry → Arrival → HeldEntry
-entryAfter x a = record {
-  entry = x .entry;
-  handle = x .handle;
+-- rule 6, "offset grows by the accepted length" and "a header joins ..", and rule 7, "the entry unlinks"
+abbrev pub planFor : HeldEntry → ℕ → ℕ → Arrival → Plan
+planFor x k portal a = record {
+  place = k;
+  entry = x;
+  message = message x portal a;
+  offset = offsetUsed (x .entry) (x .local) a;
   local = localAfter (x .entry) (x .local) a;
-  retired = cond (unlinks (x .entry) (x .local) a) 1 0;
+  unlinks = unlinks (x .entry) (x .local) a;
+  waits = takesHeaders (x .entry);
+}
+
+-- for the entry at place k
+abbrev pub plan : List HeldEntry → ℕ → Arrival → ℕ → Plan
+plan entries portal a k = planFor (entryAt entries k) k portal a
+
+-- "Request: PUT or GET, then AUTO_UNLINK if it unlinked (reading).": decision 12
+abbrev pub requestEvents : Plan → List Issued
+requestEvents p = arrivalEvent (p .message) (p .entry) ∷ cond (p .unlinks) (autoUnlinkEvent (p .entry) ∷ []) []
+
+-- ## Rules 5 to 7: the plan carried out
+
+abbrev pub entryAfter : Plan → HeldEntry
+entryAfter p = record {
+  entry = p .entry .entry;
+  handle = p .entry .handle;
+  local = p .local;
+  retired = cond (p .unlinks) 1 0;
 }
 
 -- an entry that unlinks is free at once, unless the header of this request waits in it: then it is retired
-abbrev pub isFreed : HeldEntry → Arrival → Bool
-isFreed x a = unlinks (x .entry) (x .local) a && not (takesHeaders (x .entry))
+abbrev pub isFreed : Plan → Bool
+isFreed p = p .unlinks && not (p .waits)
 
-abbrev pub entriesAfter : List HeldEntry → ℕ → Arrival → List HeldEntry
-entriesAfter entries k a =
-    cond (isFreed (entryAt entries k) a)
-    (removeAt k entries)
-    (set entries k (entryAfter (entryAt entries k) a))
+abbrev pub entriesAfter : List HeldEntry → Plan → List HeldEntry
+entriesAfter entries p = cond (isFreed p) (removeAt (p .place) entries) (set entries (p .place) (entryAfter p))
 
 -- rule 6: "Overflow: a header joins the end of the portal's waiting ones, unless disabled."
-abbrev pub headersAfter : List Header → HeldEntry → Header → List Header
-headersAfter headers x h = cond (takesHeaders (x .entry)) (headers ++ (h ∷ [])) headers
-
--- "Request: PUT or GET, then AUTO_UNLINK if it unlinked (reading).": decision 12
-abbrev pub requestEvents : HeldEntry → Header → Arrival → List Issued
-requestEvents x h a = arrivalEvent h x ∷ cond (unlinks (x .entry) (x .local) a) (autoUnlinkEvent x ∷ []) []
+abbrev pub headersAfter : List Header → Plan → List Header
+headersAfter headers p = cond (p .waits) (headers ++ (p .message ∷ [])) headers
 
 -- "CT_COMM counts accepted requests", on the chosen entry
-abbrev pub delivered : View → HeldEntry → Header → ℕ → Arrival → View
-delivered v x h k a =
+abbrev pub countersAfter : List Counter → Plan → List Counter
+countersAfter counters p =
+    counted counters (p .entry .entry .counter) (commAmount (p .entry .entry .options) (p .message .accepted))
+
+abbrev pub delivered : View → Plan → View
+delivered v p =
     withCounters
     (withQueue
-    (withHeaders (withEntries v (entriesAfter (v .entries) k a)) (headersAfter (v .headers) x h))
-    (postAll (v .queue) (requestEvents x h a)))
-    (counted (v .counters) (x .entry .counter) (commAmount (x .entry .options) (h .accepted)))
+    (withHeaders (withEntries v (entriesAfter (v .entries) p)) (headersAfter (v .headers) p))
+    (postAll (v .queue) (requestEvents p)))
+    (countersAfter (v .counters) p)
 
--- ## The state, the answer and the bytes by the decision
+-- rule 5, "Put writes that many payload bytes"
+abbrev pub bytesPut : List ℕ → List ℕ → Plan → List ℕ
+bytesPut memory payload p = overwritten memory (p .message .place) (take (p .message .accepted) payload)
+
+-- rule 5, "get fills that many reply bytes and keeps the rest"
+abbrev pub bytesGot : List ℕ → List ℕ → Plan → List ℕ
+bytesGot memory reply p = overwritten reply 0 (take (p .message .accepted) (drop (p .message .place) memory))
+
+-- "PRIORITY or OVERFLOW", by the list of the chosen entry, "with accepted length, rule 1's offset and ack"
+abbrev pub deliveryAnswer : Kind → ℕ → Plan → Answer
+deliveryAnswer kind ack p =
+    cond (eqb (p .entry .entry .list) 0)
+    (PRIORITY (p .message .accepted) (p .offset) (ackGiven (p .entry .entry .options) kind ack))
+    (OVERFLOW (p .message .accepted) (p .offset) (ackGiven (p .entry .entry .options) kind ack))
+
+-- ## State, answer and bytes by the decision
 
 abbrev pub requestState : View → ℕ → Arrival → Decision → View
-requestState v portal a (Decision.Deliver k) =
-    delivered v (entryAt (v .entries) k) (message (entryAt (v .entries) k) portal a) k a
+requestState v portal a (Decision.Deliver k) = delivered v (plan (v .entries) portal a k)
 requestState v portal a Decision.Drop = withRegisters v (oneDropped (v .registers))
 requestState v portal a Decision.DenyPermission = withRegisters v (onePermission (v .registers))
 requestState v portal a Decision.DenyOperation = withRegisters v (oneOperation (v .registers))
 
--- "PRIORITY or OVERFLOW", by the list of the chosen entry
-abbrev pub acceptance : ℕ → ℕ → ℕ → ℕ → Answer
-acceptance list n offset ack = cond (eqb list 0) (PRIORITY n offset ack) (OVERFLOW n offset ack)
-
--- "with accepted length, rule 1's offset and ack"
-abbrev pub deliveryAnswer : HeldEntry → Arrival → ℕ → Answer
-deliveryAnswer x a ack =
-    acceptance (x .entry .list)
-    (accepted (x .entry) (x .local) a)
-    (offsetUsed (x .entry) (x .local) a)
-    (ackGiven (x .entry .options) (a .kind) ack)
-
 -- "or DROPPED, PERM, OP with the ack asked"
-abbrev pub answerBy : List HeldEntry → Arrival → ℕ → Decision → Answer
-answerBy entries a ack (Decision.Deliver k) = deliveryAnswer (entryAt entries k) a ack
-answerBy entries a ack Decision.Drop = DROPPED (ackAsked (a .kind) ack)
-answerBy entries a ack Decision.DenyPermission = PERM (ackAsked (a .kind) ack)
-answerBy entries a ack Decision.DenyOperation = OP (ackAsked (a .kind) ack)
+abbrev pub answerBy : View → ℕ → Arrival → ℕ → Decision → Answer
+answerBy v portal a ack (Decision.Deliver k) = deliveryAnswer (a .kind) ack (plan (v .entries) portal a k)
+answerBy v portal a ack Decision.Drop = DROPPED (ackAsked (a .kind) ack)
+answerBy v portal a ack Decision.DenyPermission = PERM (ackAsked (a .kind) ack)
+answerBy v portal a ack Decision.DenyOperation = OP (ackAsked (a .kind) ack)
 
--- rule 5, "Put writes that many payload bytes"
-abbrev pub memoryAfter : List HeldEntry → Arrival → List ℕ → List ℕ → Decision → List ℕ
-memoryAfter entries a payload memory (Decision.Deliver k) =
-    overwritten memory
-    (place (entryAt entries k .entry) (entryAt entries k .local) a)
-    (take (accepted (entryAt entries k .entry) (entryAt entries k .local) a) payload)
-memoryAfter entries a payload memory Decision.Drop = memory
-memoryAfter entries a payload memory Decision.DenyPermission = memory
-memoryAfter entries a payload memory Decision.DenyOperation = memory
-
--- rule 5, "get fills that many reply bytes and keeps the rest"
-abbrev pub replyAfter : List HeldEntry → Arrival → List ℕ → List ℕ → Decision → List ℕ
-replyAfter entries a memory reply (Decision.Deliver k) =
-    overwritten reply 0
-    (take (accepted (entryAt entries k .entry) (entryAt entries k .local) a)
-    (drop (place (entryAt entries k .entry) (entryAt entries k .local) a) memory))
-replyAfter entries a memory reply Decision.Drop = reply
-replyAfter entries a memory reply Decision.DenyPermission = reply
-replyAfter entries a memory reply Decision.DenyOperation = reply
+-- bytes move only where the request is delivered
+abbrev pub ifDelivered : View → ℕ → Arrival → (Plan → List ℕ) → List ℕ → Decision → List ℕ
+ifDelivered v portal a moved kept (Decision.Deliver k) = moved (plan (v .entries) portal a k)
+ifDelivered v portal a moved kept Decision.Drop = kept
+ifDelivered v portal a moved kept Decision.DenyPermission = kept
+ifDelivered v portal a moved kept Decision.DenyOperation = kept
 
 -- ## The calls
 
@@ -197,27 +207,27 @@ requestTests v memory q requested =
     ∷ record { passed = noneBad (badRequestArgument q requested); refusal = Refusal.ArgInvalid }
     ∷ []
 
--- a request that is not refused, with the buffer that it leaves
-abbrev pub served : View → Request → Arrival → Decision → List ℕ → Outcome View (List ℕ)
-served v q a d buffer =
-    record { answer = answerBy (v .entries) a (q .ack) d; state = requestState v (q .portal) a d; buffer = buffer }
+-- a request that is not refused: the bytes that a delivery moves, and the buffer as it was lent
+abbrev pub served : View → Request → Arrival → (Plan → List ℕ) → List ℕ → Decision → Outcome View (List ℕ)
+served v q a moved lent d = record {
+  answer = answerBy v (q .portal) a (q .ack) d;
+  state = requestState v (q .portal) a d;
+  buffer = ifDelivered v (q .portal) a moved lent d;
+}
+
+abbrev pub decided : View → Request → Arrival → Decision
+decided v q a = decide (v .entries) (v .headers) (q .portal) a
 
 -- "The requested length is the payload's (put) ..". The buffer is the memory.
-abbrev pub putServed : View → List ℕ → Request → List ℕ → Arrival → Decision → Outcome View (List ℕ)
-putServed v memory q payload a d = served v q a d (memoryAfter (v .entries) a payload memory d)
-
 unfoldable pub put : View → List ℕ → Request → List ℕ → Outcome View (List ℕ)
 put v memory q payload =
     guarded v memory (requestTests v memory q (length payload))
-    (putServed v memory q payload (arrivalOf q Kind.Put (length payload))
-    (decide (v .entries) (v .headers) (q .portal) (arrivalOf q Kind.Put (length payload))))
+    (served v q (arrivalOf q Kind.Put (length payload)) (bytesPut memory payload) memory
+    (decided v q (arrivalOf q Kind.Put (length payload))))
 
 -- ".. or the reply buffer's (get)". The buffer is the reply; the memory is only read.
-abbrev pub getServed : View → List ℕ → Request → List ℕ → Arrival → Decision → Outcome View (List ℕ)
-getServed v memory q reply a d = served v q a d (replyAfter (v .entries) a memory reply d)
-
 unfoldable pub get : View → List ℕ → Request → List ℕ → Outcome View (List ℕ)
 get v memory q reply =
     guarded v reply (requestTests v memory q (length reply))
-    (getServed v memory q reply (arrivalOf q Kind.Get (length reply))
-    (decide (v .entries) (v .headers) (q .portal) (arrivalOf q Kind.Get (length reply))))
+    (served v q (arrivalOf q Kind.Get (length reply)) (bytesGot memory reply) reply
+    (decided v q (arrivalOf q Kind.Get (length reply))))
