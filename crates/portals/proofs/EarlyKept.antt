@@ -14,7 +14,7 @@ use Rattle.matching.specs.EarlyMessages.{takesHeaders}
 use Rattle.matching.specs.declared.layout.Entry.{Entry}
 use Rattle.portals.specs.Lists.{every, any, select, withoutFirst}
 use Rattle.portals.specs.Sizes.{SLOTS, LAST-HANDLE}
-use Rattle.portals.specs.View.{View, isRetired, withEntries, withHeaders}
+use Rattle.portals.specs.View.{View, isLinked, withEntries, withHeaders}
 use Rattle.portals.specs.Refusals.{hasHandle, handleGiven, localKept, entrySound, waitsIn, holds, bytesInside, lengthsKept, headerSound, keepsSlot}
 use Rattle.portals.specs.Outcome.{refusal}
 use Rattle.portals.specs.Events.{linkEvent, searchEvent, postAll}
@@ -58,7 +58,7 @@ still-named entries left (h ∷ l) within e =
     joined (headerSound (select (keepsSlot left) entries) h) (every (headerSound (select (keepsSlot left) entries)) l)
     (joined (any (holds h) (select (keepsSlot left) entries)) (lengthsKept h)
     (any-select (holds h) (keepsSlot left) entries
-    (λ x held. or-right (not (isRetired x)) (any (waitsIn x) left)
+    (λ x held. or-right (isLinked x) (any (waitsIn x) left)
     (within x (or-left (waitsIn x h) (any (waitsIn x) l) (waits x held))))
     (t .0))
     (t .1))
@@ -175,7 +175,7 @@ append-sound v e s =
 -- an entry with another handle than a header names does not hold it
 other-handle : (h : Header) (handle : ℕ) (x : HeldEntry) → isLinkedAs handle x ≡ true → eqb (h .handle) handle ≡ false → holds h x ≡ false
 other-handle h handle x l n =
-    let named : x .handle ≡ handle = eqb-true (x .handle) handle (both (not (isRetired x)) (hasHandle handle x) l .1) in
+    let named : x .handle ≡ handle = eqb-true (x .handle) handle (both (isLinked x) (hasHandle handle x) l .1) in
     rw (named, n)
 
 pub unlink-sound : (v : View) (handle : ℕ) → Sound v → Sound (unlink v handle .state)

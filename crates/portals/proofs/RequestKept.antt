@@ -25,7 +25,7 @@ use Rattle.matching.specs.declared.request.Verdict.the-variants as Verdict
 use Rattle.matching.proofs.RequestLaws.{accepted-requested, place-start, place-end, local-stays, local-length}
 use Rattle.portals.specs.Lists.{every, any, firstFrom, removeAt}
 use Rattle.portals.specs.Sizes.{MEMORY, HEADERS}
-use Rattle.portals.specs.View.{View, isRetired, zeroEntry, withEntries, withHeaders, withQueue}
+use Rattle.portals.specs.View.{View, isLinked, zeroEntry, withEntries, withHeaders, withQueue}
 use Rattle.portals.specs.Refusals.{handleGiven, localKept, entrySound, waitsIn, holds, bytesInside, lengthsKept, headerSound, keepsSlot}
 use Rattle.portals.specs.Outcome.{refusal}
 use Rattle.portals.specs.Events.{postAll}
@@ -46,7 +46,7 @@ use Rattle.portals.proofs.KeptLaws.{Held, held-kept, counters-kept, reg
 
 pub record Chosen (entries : List HeldEntry) (headers : List Header) (portal : ℕ) (a : Arrival) (k : ℕ) : Type 0 where
   pub inside : k < length entries
-  pub linked : isRetired (entryAt entries k) ≡ false
+  pub linked : isLinked (entryAt entries k) ≡ true
   pub portalOf : entryAt entries k .entry .portal ≡ portal
   pub matching : matches (entryAt entries k .entry) (entryAt entries k .local) a ≡ true
   pub granted : verdictOn (entryAt entries k .entry) a ≡ Verdict.Granted
@@ -64,12 +64,12 @@ module _ (entries : List HeldEntry) (headers : List Header) (portal : ℕ) (a : 
   judged list k f Verdict.Granted true p q =
       let x = entryAt entries k in
       let s = both (isIn portal list x) (matches (x .entry) (x .local) a) (f .passes) in
-      let t = both (not (isRetired x) && eqb (x .entry .portal) portal) (eqb (x .entry .list) list) (s .0) in
-      let u = both (not (isRetired x)) (eqb (x .entry .portal) portal) (t .0) in
+      let t = both (isLinked x && eqb (x .entry .portal) portal) (eqb (x .entry .list) list) (s .0) in
+      let u = both (isLinked x) (eqb (x .entry .portal) portal) (t .0) in
       deliver k
       (record {
         inside = f .inside;
-        linked = not-true (isRetired x) (u .0);
+        linked = u .0;
         portalOf = eqb-true (x .entry .portal) portal (u .1);
         matching = s .1;
         granted = p;
@@ -110,7 +110,7 @@ elsewhere : (size last portal list : ℕ) (a : Arrival) (x : HeldEntry) → 7 < 
 elsewhere size last portal list a x above e =
     let s = both (handleGiven last x && noneBad (badEntryArgument (x .entry) size)) (localKept x) e in
     let n = portal-fits (x .entry) size (both (handleGiven last x) (noneBad (badEntryArgument (x .entry) size)) (s .0) .1) in
-    rw (ne-eqb (x .entry .portal) portal (λ same. omega arith)) (off (not (isRetired x)) (eqb (x .entry .list) list) (matches (x .entry) (x .local) a))
+    rw (ne-eqb (x .entry .portal) portal (λ same. omega arith)) (off (isLinked x) (eqb (x .entry .list) list) (matches (x .entry) (x .local) a))
   where
     off : (b c d : Bool) → not (b && false && c && d) ≡ true
     off true c d = refl
@@ -275,19 +275,19 @@ module _ (v : View) (sound : Sound v) (portal : ℕ) (a : Arrival) (k : ℕ) (ch
       (join-fits (v .headers) its HEADERS (room-left t))
       (every-join (headerSound placed) (v .headers) its waited
       (joined (any (holds its) placed) (lengthsKept its) (named t) (message-lengths it portal a size)))
-      (λ x e. or-map (not (isRetired x)) (any (waitsIn x) (v .headers)) (any (waitsIn x) (v .headers ++ (its ∷ [])))
+      (λ x e. or-map (isLinked x) (any (waitsIn x) (v .headers)) (any (waitsIn x) (v .headers ++ (its ∷ [])))
       (any-join (waitsIn x) (v .headers) its) e)
-      (or-right (not (isRetired (entryAfter planned))) (any (waitsIn (entryAfter planned)) (v .headers ++ (its ∷ [])))
+      (or-right (isLinked (entryAfter planned)) (any (waitsIn (entryAfter planned)) (v .headers ++ (its ∷ [])))
       (any-last (waitsIn (entryAfter planned)) (v .headers) its waits-there))
 
-  still-linked : unlinks (it .entry) (it .local) a ≡ false → not (isRetired (entryAfter planned)) ≡ true
+  still-linked : unlinks (it .entry) (it .local) a ≡ false → isLinked (entryAfter planned) ≡ true
   still-linked u = rw u
 
   -- without one, and linked
   remains : unlinks (it .entry) (it .local) a ≡ false → Held (v .size) (v .last) placed (v .headers)
   remains u =
       stays (v .headers) (sound .waiting) waited (λ x e. e)
-      (or-left (not (isRetired (entryAfter planned))) (any (waitsIn (entryAfter planned)) (v .headers)) (still-linked u))
+      (or-left (isLinked (entryAfter planned)) (any (waitsIn (entryAfter planned)) (v .headers)) (still-linked u))
 
   held-by : (takes unlinked : Bool) → takesHeaders (it .entry) ≡ takes → unlinks (it .entry) (it .local) a ≡ unlinked
       → Held (v .size) (v .last) (cond (unlinked && not takes) (removeAt k (v .entries)) placed) (cond takes (v .headers ++ (its ∷ [])) (v .headers))

@@ -18,7 +18,7 @@ use Rattle.matching.specs.declared.refusals.BadArgument.the-variants as BadArgu
 use Rattle.portals.specs.Lists.{any, select, selectNot, firstOnly, withoutFirst, isEmpty, sumOf}
 use Rattle.portals.specs.Sizes.{SLOTS, LAST-HANDLE}
 use Rattle.portals.specs.Kinds.{kindOf}
-use Rattle.portals.specs.View.{View, isRetired, withLast, withEntries, withHeaders, withQueue, withCounters}
+use Rattle.portals.specs.View.{View, isLinked, isRetired, withLast, withEntries, withHeaders, withQueue, withCounters}
 use Rattle.portals.specs.Refusals.{hasHandle, waitsIn, keepsSlot, Condition}
 use Rattle.portals.specs.Answers.{LINKED, TAKEN, DONE, SEARCHED}
 use Rattle.portals.specs.Outcome.{Outcome, guarded}
@@ -139,7 +139,7 @@ append v e = guarded v tt (appendTests v e) (appended v e (takenBy e (v .headers
 -- ## Unlink
 
 abbrev pub isLinkedAs : ℕ → HeldEntry → Bool
-isLinkedAs handle x = not (isRetired x) && hasHandle handle x
+isLinkedAs handle x = isLinked x && hasHandle handle x
 
 -- "any handle not linked is ARG_INVALID"
 abbrev pub badHandleArgument : View → ℕ → BadArgument

@@ -11,7 +11,7 @@ use Rattle.matching.specs.EarlyMessages.{takesHeaders}
 use Rattle.matching.specs.declared.refusals.Refusal.{Refusal}
 use Rattle.portals.specs.Lists.{every, any}
 use Rattle.portals.specs.Sizes.{MEMORY, SLOTS, HEADERS, EVENTS}
-use Rattle.portals.specs.View.{View, isRetired, viewOf}
+use Rattle.portals.specs.View.{View, isLinked, viewOf}
 use Rattle.portals.specs.declared.layout.HeldEntry.{HeldEntry}
 use Rattle.portals.specs.declared.layout.Header.{Header}
 use Rattle.portals.specs.declared.layout.Target.{Target}
@@ -68,7 +68,7 @@ headerSound entries h = any (holds h) entries && lengthsKept h
 
 -- "a slot is taken while its entry is linked, or retired with messages waiting"; so "a retired entry has at least one"
 abbrev pub keepsSlot : List Header → HeldEntry → Bool
-keepsSlot headers x = not (isRetired x) || any (waitsIn x) headers
+keepsSlot headers x = isLinked x || any (waitsIn x) headers
 
 -- "Sound: .."
 unfoldable pub soundView : View → Bool

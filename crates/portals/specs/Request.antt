@@ -21,7 +21,7 @@ use Rattle.matching.specs.declared.refusals.Refusal.the-variants as Refusal
 use Rattle.portals.specs.Lists.{firstFrom, removeAt, overwritten}
 use Rattle.portals.specs.Sizes.{HEADERS}
 use Rattle.portals.specs.Kinds.{kindNumber}
-use Rattle.portals.specs.View.{View, isRetired, zeroEntry, withEntries, withHeaders, withQueue, withCounters, withRegisters}
+use Rattle.portals.specs.View.{View, isLinked, zeroEntry, withEntries, withHeaders, withQueue, withCounters, withRegisters}
 use Rattle.portals.specs.Refusals.{Condition}
 use Rattle.portals.specs.Answers.{Answer, PRIORITY, OVERFLOW, DROPPED, PERM, OP}
 use Rattle.portals.specs.Outcome.{Outcome, guarded}
@@ -40,7 +40,7 @@ use Rattle.portals.specs.declared.requests.Plan.{Plan}
 
 -- the entry stands in the portal's list of this number (0 priority, 1 overflow): the entries of a list are in their order of linking
 abbrev pub isIn : ℕ → ℕ → HeldEntry → Bool
-isIn portal list x = not (isRetired x) && eqb (x .entry .portal) portal && eqb (x .entry .list) list
+isIn portal list x = isLinked x && eqb (x .entry .portal) portal && eqb (x .entry .list) list
 
 -- it is in the list, and matches the request
 abbrev pub isCandidate : ℕ → ℕ → Arrival → HeldEntry → Bool

@@ -33,9 +33,12 @@ pub record View : Type 0 where
   pub counters : List Counter
   pub registers : Registers
 
--- an entry is retired: unlinked, with messages waiting
+-- an entry is linked, or else retired: unlinked, with messages waiting
+abbrev pub isLinked : HeldEntry → Bool
+isLinked x = eqb (x .retired) 0
+
 abbrev pub isRetired : HeldEntry → Bool
-isRetired x = not (eqb (x .retired) 0)
+isRetired x = not (isLinked x)
 
 abbrev pub queueOf : Queue → EventQueue
 queueOf q = record { events = ringOf (q .head % EVENTS) (q .count) (q .slots); lost = q .lost }
