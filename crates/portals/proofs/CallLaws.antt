@@ -1,11 +1,11 @@
--- The laws of all calls: soundness is kept, a refusal changes nothing, handles ascend.
+-- The laws of all calls: soundness is kept, the size is fixed, a refusal changes nothing, handles count up.
 use mathlib.Core.Path.{_≡_, refl, sym, _∙_, subst}
-use mathlib.Core.Bool.{Bool, true, false, cond, false≢true}
+use mathlib.Core.Bool.{Bool, true, false, cond, true≢false, false≢true}
 use mathlib.Core.List.{List, [], _∷_}
-use Prim.Native.Nat.{ℕ, _+_, _≤_}
+use Prim.Native.Nat.{ℕ, _+_, _≤_, _<_}
 use native.Mathlib.Omega.{arith}
-use borrow.Author.Tests.{leb-true}
-use lib.Dec.{leb, eqb}
+use borrow.Author.Tests.{leb-true, ltb-true}
+use lib.Dec.{leb, ltb, eqb}
 use lib.ListN.{length}
 use Rattle.matching.specs.Refusals.{noneBad}
 use Rattle.matching.specs.Request.{arrivalOf, ackGiven}
@@ -18,7 +18,7 @@ use Rattle.matching.specs.declared.refusals.BadArgument.the-variants as BadArgu
 use Rattle.matching.specs.declared.request.Kind.{Kind}
 use Rattle.matching.specs.declared.request.Kind.the-variants as Kind
 use Rattle.matching.specs.declared.request.Arrival.{Arrival}
-use Rattle.portals.specs.Sizes.{MEMORY, EVENTS}
+use Rattle.portals.specs.Sizes.{MEMORY, SLOTS, EVENTS, LAST-HANDLE}
 use Rattle.portals.specs.View.{View, emptyView}
 use Rattle.portals.specs.Refusals.{Condition}
 use Rattle.portals.specs.Answers.{Answer, MADE, PRIORITY, OVERFLOW, isRefused}
@@ -26,9 +26,9 @@ use Rattle.portals.specs.Outcome.{Outcome, refusal, guarded}
 use Rattle.portals.specs.Making.{notMade, badSetting, new}
 use Rattle.portals.specs.Events.{oldest, readEvent}
 use Rattle.portals.specs.Counters.{counterTests, setCounter, increment}
-use Rattle.portals.specs.Request.{plan, decide, answerBy, requestState, requestTests, put, get}
+use Rattle.portals.specs.Request.{plan, decided, answerBy, requestState, requestTests, put, get}
 use Rattle.portals.specs.EarlyMessages.{Walk, appendBy, foundOnce, takenBy, appendTests, append, unlinkTests, unlink, lookedAt, deleted, walkFor, searched, searchTests, search}
-use Rattle.portals.specs.Calls.{Call, CallLaws, Handles, linked, taken, refused, stateAfter, answerTo}
+use Rattle.portals.specs.Calls.{Call, CallLaws, isAppend, Handles, linked, taken, refused, stateAfter, answerTo}
 use Rattle.portals.specs.Calls as calls
 use Rattle.portals.specs.declared.layout.Settings.{Settings}
 use Rattle.portals.specs.declared.layout.Header.{Header}
@@ -36,7 +36,7 @@ use Rattle.portals.specs.declared.layout.Event.{Event}
 use Rattle.portals.specs.declared.layout.CounterChange.{CounterChange}
 use Rattle.portals.specs.declared.requests.Decision.{Decision}
 use Rattle.portals.specs.declared.requests.Decision.the-variants as Decision
-use Rattle.portals.proofs.ListLaws.{cond-cases}
+use Rattle.portals.proofs.ListLaws.{both, cond-cases}
 use Rattle.portals.proofs.GuardLaws.{guard-cases}
 use Rattle.portals.proofs.SoundLaws.{Sound, sound-facts, facts-sound}
 use Rattle.portals.proofs.KeptLaws.{counters-kept, queue-kept}
@@ -94,95 +94,92 @@ new-sound c =
     (λ r. empty-sound 0 (omega arith))
     (λ passed. empty-sound (c .size) (setting-fits c (passed .0)))
 
--- ## A refusal changes nothing, and no call goes back behind the last handle
+-- ## A refusal changes nothing, and the memory's size is fixed
 
 pub record Orderly {B : Type 0} (v : View) (b : B) (o : Outcome View B) : Type 0 where
   pub state : isRefused (o .answer) ≡ true → o .state ≡ v
   pub buffer : isRefused (o .answer) ≡ true → o .buffer ≡ b
-  pub ascends : v .last ≤ o .state .last
+  pub fixed : o .state .size ≡ v .size
 
--- so it is where what the call does is no refusal and does not go back
+-- so it is where what the call does is no refusal and keeps the size
 guarded-orderly : {B : Type 0} (v : View) (b : B) (tests : List Condition) (does : Outcome View B)
     → isRefused (does .answer) ≡ false
-    → v .last ≤ does .state .last
+    → does .state .size ≡ v .size
     → Orderly v b (guarded v b tests does)
-guarded-orderly v b tests does answers last =
+guarded-orderly v b tests does answers size =
     guard-cases (Orderly v b) (refusal v b) tests does
-    (λ r. record { state = λ e. refl; buffer = λ e. refl; ascends = omega arith })
+    (λ r. record { state = λ e. refl; buffer = λ e. refl; fixed = refl })
     (λ passed.
     record {
       state = λ e. absurd (false≢true (sym answers ∙ e));
       buffer = λ e. absurd (false≢true (sym answers ∙ e));
-      ascends = last;
+      fixed = size;
     })
 
 module _ (v : View) where
-  same : v .last ≤ v .last
-  same = omega arith
-
-  next-above : v .last ≤ v .last + 1
-  next-above = omega arith
-
   append-by-answers : (isTaken : Bool) (e : Entry) (w : Walk Header) → isRefused (appendBy isTaken v e w .answer) ≡ false
   append-by-answers true e w = refl
   append-by-answers false e w = refl
 
-  append-by-ascends : (isTaken : Bool) (e : Entry) (w : Walk Header) → v .last ≤ appendBy isTaken v e w .state .last
-  append-by-ascends true e w = same
-  append-by-ascends false e w = next-above
+  append-by-size : (isTaken : Bool) (e : Entry) (w : Walk Header) → appendBy isTaken v e w .state .size ≡ v .size
+  append-by-size true e w = refl
+  append-by-size false e w = refl
 
   append-orderly : (e : Entry) → Orderly v tt (append v e)
   unfolding append
   append-orderly e =
       let w = takenBy e (v .headers) in
-      guarded-orderly v tt (appendTests v e) _ (append-by-answers (foundOnce e w) e w) (append-by-ascends (foundOnce e w) e w)
+      guarded-orderly v tt (appendTests v e) _ (append-by-answers (foundOnce e w) e w) (append-by-size (foundOnce e w) e w)
 
   unlink-orderly : (handle : ℕ) → Orderly v tt (unlink v handle)
   unfolding unlink
-  unlink-orderly handle = guarded-orderly v tt (unlinkTests v handle) _ refl same
+  unlink-orderly handle = guarded-orderly v tt (unlinkTests v handle) _ refl refl
 
   search-orderly : (e : Entry) → Orderly v tt (search v e)
   unfolding search
   search-orderly e =
       let w = walkFor e (v .headers) in
       guarded-orderly v tt (searchTests v e) (searched v e w) refl
-      (cond-cases (λ (s : View). v .last ≤ s .last) (eqb (e .list) 0) (lookedAt v e w) (deleted v e w) (λ look. same) (λ delete. same))
+      (cond-cases (λ (s : View). s .size ≡ v .size) (eqb (e .list) 0) (lookedAt v e w) (deleted v e w) (λ look. refl) (λ delete. refl))
 
-  acceptance-answers : (priority : Bool) (n offset ack : ℕ) → isRefused (cond priority (PRIORITY n offset ack) (OVERFLOW n offset ack)) ≡ false
-  acceptance-answers true n offset ack = refl
-  acceptance-answers false n offset ack = refl
+  delivery-answers : (priority : Bool) (n offset ack : ℕ) → isRefused (cond priority (PRIORITY n offset ack) (OVERFLOW n offset ack)) ≡ false
+  delivery-answers true n offset ack = refl
+  delivery-answers false n offset ack = refl
 
   request-answers : (portal : ℕ) (a : Arrival) (ack : ℕ) (d : Decision) → isRefused (answerBy v portal a ack d) ≡ false
   request-answers portal a ack (Decision.Deliver k) =
       let p = plan (v .entries) portal a k in
-      acceptance-answers (eqb (p .entry .entry .list) 0) (p .message .accepted) (p .offset) (ackGiven (p .entry .entry .options) (a .kind) ack)
+      delivery-answers (eqb (p .entry .entry .list) 0) (p .message .accepted) (p .offset) (ackGiven (p .entry .entry .options) (a .kind) ack)
   request-answers portal a ack Decision.Drop = refl
   request-answers portal a ack Decision.DenyPermission = refl
   request-answers portal a ack Decision.DenyOperation = refl
 
-  request-ascends : (portal : ℕ) (a : Arrival) (d : Decision) → v .last ≤ requestState v portal a d .last
-  request-ascends portal a (Decision.Deliver k) = same
-  request-ascends portal a Decision.Drop = same
-  request-ascends portal a Decision.DenyPermission = same
-  request-ascends portal a Decision.DenyOperation = same
+  -- a request keeps the size and the last handle
+  request-rest : (portal : ℕ) (a : Arrival) (d : Decision) → (requestState v portal a d .size ≡ v .size) × (requestState v portal a d .last ≡ v .last)
+  request-rest portal a (Decision.Deliver k) = (refl, refl)
+  request-rest portal a Decision.Drop = (refl, refl)
+  request-rest portal a Decision.DenyPermission = (refl, refl)
+  request-rest portal a Decision.DenyOperation = (refl, refl)
 
   put-orderly : (memory : List ℕ) (q : Request) (payload : List ℕ) → Orderly v memory (put v memory q payload)
   unfolding put
   put-orderly memory q payload =
       let a = arrivalOf q Kind.Put (length payload) in
-      let d = decide (v .entries) (v .headers) (q .portal) a in
-      guarded-orderly v memory (requestTests v memory q (length payload)) _ (request-answers (q .portal) a (q .ack) d) (request-ascends (q .portal) a d)
+      guarded-orderly v memory (requestTests v memory q (length payload)) _
+      (request-answers (q .portal) a (q .ack) (decided v q a))
+      (request-rest (q .portal) a (decided v q a) .0)
 
   get-orderly : (memory : List ℕ) (q : Request) (reply : List ℕ) → Orderly v reply (get v memory q reply)
   unfolding get
   get-orderly memory q reply =
       let a = arrivalOf q Kind.Get (length reply) in
-      let d = decide (v .entries) (v .headers) (q .portal) a in
-      guarded-orderly v reply (requestTests v memory q (length reply)) _ (request-answers (q .portal) a (q .ack) d) (request-ascends (q .portal) a d)
+      guarded-orderly v reply (requestTests v memory q (length reply)) _
+      (request-answers (q .portal) a (q .ack) (decided v q a))
+      (request-rest (q .portal) a (decided v q a) .0)
 
   oldest-orderly : (events : List Event) → Orderly v tt (oldest v events)
-  oldest-orderly [] = guarded-orderly v tt [] (oldest v []) refl same
-  oldest-orderly (x ∷ rest) = guarded-orderly v tt [] (oldest v (x ∷ rest)) refl same
+  oldest-orderly [] = guarded-orderly v tt [] (oldest v []) refl refl
+  oldest-orderly (x ∷ rest) = guarded-orderly v tt [] (oldest v (x ∷ rest)) refl refl
 
   read-event-orderly : Orderly v tt (readEvent v)
   unfolding readEvent
@@ -190,11 +187,11 @@ module _ (v : View) where
 
   set-orderly : (x : CounterChange) → Orderly v tt (setCounter v x)
   unfolding setCounter
-  set-orderly x = guarded-orderly v tt (counterTests (x .counter)) _ refl same
+  set-orderly x = guarded-orderly v tt (counterTests (x .counter)) _ refl refl
 
   increment-orderly : (x : CounterChange) → Orderly v tt (increment v x)
   unfolding increment
-  increment-orderly x = guarded-orderly v tt (counterTests (x .counter)) _ refl same
+  increment-orderly x = guarded-orderly v tt (counterTests (x .counter)) _ refl refl
 
 -- ## Every call
 
@@ -202,13 +199,13 @@ module _ (v : View) where
 record Lawful (v : View) (a : Answer) (s : View) : Type 0 where
   sound : Sound v → Sound s
   keeps : isRefused a ≡ true → s ≡ v
-  ascends : v .last ≤ s .last
+  fixed : s .size ≡ v .size
 
 lawful : {B : Type 0} (v : View) (b : B) (o : Outcome View B) → (Sound v → Sound (o .state)) → Orderly v b o → Lawful v (o .answer) (o .state)
-lawful v b o s h = record { sound = s; keeps = h .state; ascends = h .ascends }
+lawful v b o s h = record { sound = s; keeps = h .state; fixed = h .fixed }
 
 reading : (v : View) (a : Answer) → Lawful v a v
-reading v a = record { sound = λ s. s; keeps = λ e. refl; ascends = omega arith }
+reading v a = record { sound = λ s. s; keeps = λ e. refl; fixed = refl }
 
 call-lawful : (v : View) (memory : List ℕ) (c : Call) → Lawful v (answerTo v memory c) (stateAfter v memory c)
 call-lawful v memory (calls.append e) = lawful v tt (append v e) (append-sound v e) (append-orderly v e)
@@ -226,28 +223,67 @@ call-lawful v memory (calls.readRegister k) = reading v _
 call-lawful v memory (calls.ready x) = reading v _
 call-lawful v memory (calls.poll ks tests) = reading v _
 
--- ## The handle that append gives
+-- ## Handles
 
 handles-by : (isTaken : Bool) (v : View) (e : Entry) (w : Walk Header)
+    → v .last < LAST-HANDLE
     → Handles (v .last) (appendBy isTaken v e w .answer) (appendBy isTaken v e w .state .last)
-handles-by true v e w = taken
-handles-by false v e w = linked
+handles-by true v e w left = taken
+handles-by false v e w left = linked left
 
 append-handles : (v : View) (e : Entry) → Handles (v .last) (append v e .answer) (append v e .state .last)
 unfolding append
 append-handles v e =
     guard-cases (λ o. Handles (v .last) (o .answer) (o .state .last)) (refusal v tt) (appendTests v e) _
     (λ r. refused)
-    (λ passed. handles-by (foundOnce e (takenBy e (v .headers))) v e (takenBy e (v .headers)))
+    (λ passed.
+    let space = both (ltb (length (v .entries)) SLOTS) (ltb (v .last) LAST-HANDLE) (passed .1 .0) in
+    handles-by (foundOnce e (takenBy e (v .headers))) v e (takenBy e (v .headers)) (ltb-true (v .last) LAST-HANDLE (space .1)))
+
+-- a refused call keeps the last handle, so a call does where what it does keeps it
+same-last : {B : Type 0} (v : View) (b : B) (tests : List Condition) (does : Outcome View B)
+    → does .state .last ≡ v .last
+    → guarded v b tests does .state .last ≡ v .last
+same-last v b tests does h =
+    guard-cases (λ (o : Outcome View _). o .state .last ≡ v .last) (refusal v b) tests does (λ r. refl) (λ passed. h)
+
+oldest-last : (v : View) (events : List Event) → oldest v events .state .last ≡ v .last
+oldest-last v [] = refl
+oldest-last v (x ∷ rest) = refl
+
+last-kept : (v : View) (memory : List ℕ) (c : Call) → isAppend c ≡ false → stateAfter v memory c .last ≡ v .last
+unfolding unlink search put get readEvent setCounter increment
+last-kept v memory (calls.append e) h = absurd (true≢false h)
+last-kept v memory (calls.unlink handle) h = same-last v tt (unlinkTests v handle) _ refl
+last-kept v memory (calls.search e) h =
+    let w = walkFor e (v .headers) in
+    same-last v tt (searchTests v e) (searched v e w)
+    (cond-cases (λ (s : View). s .last ≡ v .last) (eqb (e .list) 0) (lookedAt v e w) (deleted v e w) (λ look. refl) (λ delete. refl))
+last-kept v memory (calls.put q payload) h =
+    let a = arrivalOf q Kind.Put (length payload) in
+    same-last v memory (requestTests v memory q (length payload)) _ (request-rest v (q .portal) a (decided v q a) .1)
+last-kept v memory (calls.get q reply) h =
+    let a = arrivalOf q Kind.Get (length reply) in
+    same-last v reply (requestTests v memory q (length reply)) _ (request-rest v (q .portal) a (decided v q a) .1)
+last-kept v memory calls.readEvent h = oldest-last v (v .queue .events)
+last-kept v memory (calls.setCounter x) h = same-last v tt (counterTests (x .counter)) _ refl
+last-kept v memory (calls.increment x) h = same-last v tt (counterTests (x .counter)) _ refl
+last-kept v memory (calls.readCounter k) h = refl
+last-kept v memory (calls.readRegister k) h = refl
+last-kept v memory (calls.ready x) h = refl
+last-kept v memory (calls.poll ks tests) h = refl
+
+-- ## All of them
 
 pub call-laws : CallLaws
 call-laws = record {
   sound = λ v memory c h. facts-sound (stateAfter v memory c) (call-lawful v memory c .sound (sound-facts v h));
   made = λ c. facts-sound (new c .state) (new-sound c);
+  fixed = λ v memory c. call-lawful v memory c .fixed;
   refused = λ v memory c. call-lawful v memory c .keeps;
   memoryKept = λ v memory q payload. put-orderly v memory q payload .buffer;
   replyKept = λ v memory q reply. get-orderly v memory q reply .buffer;
   beyond = λ v portal a s above. none-beyond v portal a (sound-facts v s) above;
   next = append-handles;
-  ascends = λ v memory c. call-lawful v memory c .ascends;
+  lastKept = last-kept;
 }

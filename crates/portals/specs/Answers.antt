@@ -25,7 +25,7 @@ use Rattle.portals.specs.declared.answers.ReadyAnswer.the-variants as Re
 use Rattle.portals.specs.declared.answers.PollAnswer.{PollAnswer}
 use Rattle.portals.specs.declared.answers.PollAnswer.the-variants as Poll
 
--- the printout's words with their values; MADE, READY, NOT-READY and REACHED are ours, of calls that no script has
+-- document 01's words with its values; MADE, READY, NOT-READY and REACHED are ours, of calls that no script has
 pub data Answer : Type 0 where
   -- with a refusal's number, 1 to 5
   REFUSED : ℕ → Answer

@@ -3,7 +3,7 @@ use mathlib.Core.Path.{_≡_}
 use mathlib.Core.Bool.{Bool, true, false}
 use mathlib.Core.List.{List, [], _∷_, _++_, map}
 use Prim.Native.Nat.{ℕ, zero, suc, _-_, _^_}
-use lib.ListN.{replicate}
+use lib.ListN.{length, replicate}
 use Rattle.matching.specs.Bits.{isSet}
 use Rattle.matching.specs.Entry.{USE-ONCE, ANY}
 use Rattle.matching.specs.Request.{arrivalOf, matches, accepted, place, unlinks}
@@ -46,8 +46,8 @@ pub data Case : Type 0 where
   unlinking : Entry → ℕ → Arrival → Bool → Case
   -- no entry with min_free 0 and without USE_ONCE unlinks
   neverUnlinking : Case
-  -- a sound state, a memory and a put: the answer and the registers
-  putting : View → List ℕ → Request → List ℕ → Answer → Registers → Case
+  -- a sound state, a memory and a put: the answer, the registers after it, and how many headers wait after it
+  putting : View → List ℕ → Request → List ℕ → Answer → Registers → ℕ → Case
   -- a counter is set, then incremented: what is read
   counting : CounterChange → CounterChange → Answer → Case
   -- from an empty queue: the users and gaps of the events that are queued in the end, and the mark of lost ones
@@ -65,10 +65,14 @@ Holds (matching e local a x) = matches e local a ≡ x
 Holds (unlinking e local a x) = unlinks e local a ≡ x
 Holds neverUnlinking =
     (e : Entry) (local : ℕ) (a : Arrival) → e .minfree ≡ 0 → isSet (e .options) USE-ONCE ≡ false → unlinks e local a ≡ false
-Holds (putting v memory q payload answer registers) =
-    _≡_ {A = Bool × Answer × Registers}
-    (soundView v, put v memory q payload .answer, put v memory q payload .state .registers)
-    (true, answer, registers)
+Holds (putting v memory q payload answer registers waiting) =
+    _≡_ {A = Bool × Answer × Registers × ℕ} (
+      soundView v,
+      put v memory q payload .answer,
+      put v memory q payload .state .registers,
+      length (put v memory q payload .state .headers),
+    )
+    (true, answer, registers, waiting)
 Holds (counting x y answer) = readCounter (increment (setCounter (emptyView 0) x .state) y .state) (x .counter) ≡ answer
 Holds (queueing ts seen lost) =
     _≡_ {A = List (ℕ × ℕ) × ℕ}
@@ -129,7 +133,7 @@ putOf offset requested = arrivalOf (requestOf 5 offset) Kind.Put requested
 abbrev pub held : Entry → ℕ → HeldEntry
 held e handle = record { entry = e; handle = handle; local = 0; retired = 0 }
 
--- a target with 16 bytes of memory and two entries in its priority list
+-- a target with 16 bytes of memory and two linked entries
 abbrev pub twoEntries : Entry → Entry → View
 twoEntries e f = withLast (withEntries (emptyView 16) (held e 1 ∷ held f 2 ∷ [])) 2
 
@@ -181,13 +185,13 @@ table =
     ∷ unlinking (entry 5 10 4) 6 (putOf 0 1) true
     ∷ neverUnlinking
     -- "5. First match lacks OP_PUT, second has it: OP."
-    ∷ putting (twoEntries (entryWith 0 2 0 8 0 ANY) (entryWith 0 1 8 8 0 ANY)) zeros request (1 ∷ []) (OP 1) (registers 0 0 1)
+    ∷ putting (twoEntries (entryWith 0 2 0 8 0 ANY) (entryWith 0 1 8 8 0 ANY)) zeros request (1 ∷ []) (OP 1) (registers 0 0 1) 0
     -- "6. Wrong uid and wrong kind: PERM."
-    ∷ putting (twoEntries (entryWith 0 2 0 8 0 4) (entryWith 0 1 8 8 0 ANY)) zeros request (1 ∷ []) (PERM 1) (registers 0 1 0)
+    ∷ putting (twoEntries (entryWith 0 2 0 8 0 4) (entryWith 0 1 8 8 0 ANY)) zeros request (1 ∷ []) (PERM 1) (registers 0 1 0) 0
     -- "7. 32 waiting: the next that would be left waiting is DROPPED.": the 32nd waits, and one that is not left waiting is delivered
-    ∷ putting (waiting 1 31) zeros request (1 ∷ []) (OVERFLOW 1 0 1) (registers 0 0 0)
-    ∷ putting (waiting 1 32) zeros request (1 ∷ []) (DROPPED 1) (registers 1 0 0)
-    ∷ putting (waiting 65 32) zeros request (1 ∷ []) (OVERFLOW 1 0 1) (registers 0 0 0)
+    ∷ putting (waiting 1 31) zeros request (1 ∷ []) (OVERFLOW 1 0 1) (registers 0 0 0) 32
+    ∷ putting (waiting 1 32) zeros request (1 ∷ []) (DROPPED 1) (registers 1 0 0) 32
+    ∷ putting (waiting 65 32) zeros request (1 ∷ []) (OVERFLOW 1 0 1) (registers 0 0 0) 32
     -- "8. Success 2^64 - 1 plus 1 is 0."
     ∷ counting (change (2 ^ 64 - 1) 0) (change 1 0) (COUNTER 0 0)
     -- "9. Event 65 is lost; after one read the next queued has gap 1."; the one after it has gap 0 again

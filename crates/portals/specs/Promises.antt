@@ -40,7 +40,7 @@ pub record Met {B : Type 0} (call : View → Outcome View B) (t : Target) (lent 
 pub record ReadMet (call : View → Answer) (t : Target) (answer : Answer) : Type 0 where
   pub outcome : answer ≡ readUnlessUnsound call (seen t)
 
--- Making a target: there is no state before it. What it makes is empty in every bit, and sound, also beside a refusal.
+-- Making a target: there is no state before it. What it makes is `newTarget` in every bit, and sound, also beside a refusal.
 pub record NewMet (c : Settings) (r : NewDone) : Type 0 where
   pub answer : newAnswer (r .answer) ≡ new c .answer
   pub target : r .target ≡ newTarget (new c .state .size)

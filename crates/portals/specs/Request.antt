@@ -110,7 +110,7 @@ message x portal a = record {
 -- rule 6, "offset grows by the accepted length" and "a header joins ..", and rule 7, "the entry unlinks"
 abbrev pub planFor : HeldEntry → ℕ → ℕ → Arrival → Plan
 planFor x k portal a = record {
-  place = k;
+  index = k;
   entry = x;
   message = message x portal a;
   offset = offsetUsed (x .entry) (x .local) a;
@@ -142,7 +142,7 @@ abbrev pub isFreed : Plan → Bool
 isFreed p = p .unlinks && not (p .waits)
 
 abbrev pub entriesAfter : List HeldEntry → Plan → List HeldEntry
-entriesAfter entries p = cond (isFreed p) (removeAt (p .place) entries) (set entries (p .place) (entryAfter p))
+entriesAfter entries p = cond (isFreed p) (removeAt (p .index) entries) (set entries (p .index) (entryAfter p))
 
 -- rule 6: "Overflow: a header joins the end of the portal's waiting ones, unless disabled."
 abbrev pub headersAfter : List Header → Plan → List Header

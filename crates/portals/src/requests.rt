@@ -20,13 +20,13 @@ pub enum Decision {
 // What rules 5 to 7 plan for a delivery.
 pub struct Plan {
     // The entry, and its place among the entries.
-    pub place: usize,
+    pub index: usize,
     pub entry: HeldEntry,
     // The message as the entry accepts it.
     pub message: Header,
     // Rule 1's offset.
     pub offset: u64,
-    // The entry's local offset after it.
+    // The entry's local offset after the delivery.
     pub local: u32,
     // The entry unlinks.
     pub unlinks: bool,
