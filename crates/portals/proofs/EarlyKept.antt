@@ -70,7 +70,10 @@ still-named entries left (h ∷ l) within e =
         let b = both (waitsIn x h && eqb (x .entry .portal) (h .portal)) (takesHeaders (x .entry)) (a .0) in
         both (waitsIn x h) (eqb (x .entry .portal) (h .portal)) (b .0) .0
 
-handed-held : (v : View) (left : List Header) → Sound v → Part left (v .headers) → Held (v .size) (v .last) (select (keepsSlot left) (v .entries)) left
+handed-held : (v : View) (left : List Header)
+    → Sound v
+    → Part left (v .headers)
+    → Held (v .size) (v .last) (select (keepsSlot left) (v .entries)) left
 handed-held v left s p =
     let kept = part-select (keepsSlot left) (v .entries) in
     let l = part-length kept in
@@ -195,7 +198,8 @@ unlink-sound v handle s =
       handles = distinct-part part (s .handles);
       entries = part-every (entrySound (v .size) (v .last)) part (s .entries);
       headers =
-          every-imply-none (headerSound (v .entries)) (headerSound (withoutFirst (isLinkedAs handle) (v .entries))) (λ h. eqb (h .handle) handle) (v .headers)
+          every-imply-none (headerSound (v .entries)) (headerSound (withoutFirst (isLinkedAs handle) (v .entries)))
+          (λ h. eqb (h .handle) handle) (v .headers)
           (λ h e n. let t = both (any (holds h) (v .entries)) (lengthsKept h) e in
           joined (any (holds h) (withoutFirst (isLinkedAs handle) (v .entries))) (lengthsKept h)
           (any-withoutFirst (holds h) (isLinkedAs handle) (v .entries) (λ x l. other-handle h handle x l n) (t .0))

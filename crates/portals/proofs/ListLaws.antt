@@ -141,6 +141,10 @@ module _ {A : Type 0} (p : A → Bool) where
   any-last [] x h = rw h
   any-last (y ∷ l) x h = or-right (p y) (any p (l ++ (x ∷ []))) (any-last l x h)
 
+  pub none-join : (l : List A) (x : A) → any p l ≡ false → p x ≡ false → any p (l ++ (x ∷ [])) ≡ false
+  none-join [] x e h = rw h
+  none-join (y ∷ l) x e h = let s = neither (p y) (any p l) e in rw (s .0) (none-join l x (s .1) h)
+
   pub any-at : (l : List A) (k : ℕ) (d : A) → k < length l → p (getD l k d) ≡ true → any p l ≡ true
   any-at [] k d h e = absurd (omega arith)
   any-at (y ∷ l) zero d h e = or-left (p y) (any p l) e

@@ -53,7 +53,8 @@ pub record Chosen (entries : List HeldEntry) (headers : List Header) (portal : �
   pub room : hasRoom headers (entryAt entries k) ≡ true
 
 module _ (entries : List HeldEntry) (headers : List Header) (portal : ℕ) (a : Arrival) (P : Decision → Type 0) (drop : P Decision.Drop)
-    (permission : P Decision.DenyPermission) (operation : P Decision.DenyOperation) (deliver : (k : ℕ) → Chosen entries headers portal a k → P (Decision.Deliver k)) where
+    (permission : P Decision.DenyPermission) (operation : P Decision.DenyOperation)
+    (deliver : (k : ℕ) → Chosen entries headers portal a k → P (Decision.Deliver k)) where
   judged : (list k : ℕ) → Found (isCandidate portal list a) entries zeroEntry k → (verdict : Verdict) (room : Bool)
       → verdictOn (entryAt entries k .entry) a ≡ verdict
       → hasRoom headers (entryAt entries k) ≡ room
@@ -106,7 +107,10 @@ portal-fits e size h = leb-true (e .portal) 7 (by (leb (e .portal) 7) _ h)
     by true rest h = refl
     by false rest h = h
 
-elsewhere : (size last portal list : ℕ) (a : Arrival) (x : HeldEntry) → 7 < portal → entrySound size last x ≡ true → not (isCandidate portal list a x) ≡ true
+elsewhere : (size last portal list : ℕ) (a : Arrival) (x : HeldEntry)
+    → 7 < portal
+    → entrySound size last x ≡ true
+    → not (isCandidate portal list a x) ≡ true
 elsewhere size last portal list a x above e =
     let s = both (handleGiven last x && noneBad (badEntryArgument (x .entry) size)) (localKept x) e in
     let n = portal-fits (x .entry) size (both (handleGiven last x) (noneBad (badEntryArgument (x .entry) size)) (s .0) .1) in
@@ -131,11 +135,15 @@ none-beyond v portal a s above =
 -- ## The entry after the request
 
 module _ (size last : ℕ) (x : HeldEntry) (k portal : ℕ) (a : Arrival) where
-  local-kept : (managed : Bool) → isSet (x .entry .options) MANAGE-LOCAL ≡ managed → localKept x ≡ true → localKept (entryAfter (planFor x k portal a)) ≡ true
+  local-kept : (managed : Bool)
+      → isSet (x .entry .options) MANAGE-LOCAL ≡ managed
+      → localKept x ≡ true
+      → localKept (entryAfter (planFor x k portal a)) ≡ true
   local-kept managed m e =
       let s = both (leb (x .local) (x .entry .length)) (isSet (x .entry .options) MANAGE-LOCAL || eqb (x .local) 0) e in
       let n = leb-true (x .local) (x .entry .length) (s .0) in
-      joined (leb (localAfter (x .entry) (x .local) a) (x .entry .length)) (isSet (x .entry .options) MANAGE-LOCAL || eqb (localAfter (x .entry) (x .local) a) 0)
+      joined (leb (localAfter (x .entry) (x .local) a) (x .entry .length))
+      (isSet (x .entry .options) MANAGE-LOCAL || eqb (localAfter (x .entry) (x .local) a) 0)
       (le-leb (localAfter (x .entry) (x .local) a) (x .entry .length) (local-length (x .entry) (x .local) a n))
       (by managed m (s .1))
     where
@@ -154,7 +162,10 @@ module _ (size last : ℕ) (x : HeldEntry) (k portal : ℕ) (a : Arrival) where
       (local-kept (isSet (x .entry .options) MANAGE-LOCAL) refl (s .1))
 
 -- its message lies inside its region
-message-held : (x : HeldEntry) (portal : ℕ) (a : Arrival) → x .entry .portal ≡ portal → takesHeaders (x .entry) ≡ true → holds (message x portal a) x ≡ true
+message-held : (x : HeldEntry) (portal : ℕ) (a : Arrival)
+    → x .entry .portal ≡ portal
+    → takesHeaders (x .entry) ≡ true
+    → holds (message x portal a) x ≡ true
 unfolding message
 message-held x portal a p t =
     let e = x .entry in
@@ -185,7 +196,8 @@ holds-none h x t = rw t (off (waitsIn x h && eqb (x .entry .portal) (h .portal))
 
 -- ## The entries and headers after a delivery
 
-module _ (v : View) (sound : Sound v) (portal : ℕ) (a : Arrival) (k : ℕ) (chosen : Chosen (v .entries) (v .headers) portal a k) (size : a .requested ≤ MEMORY) where
+module _ (v : View) (sound : Sound v) (portal : ℕ) (a : Arrival) (k : ℕ)
+    (chosen : Chosen (v .entries) (v .headers) portal a k) (size : a .requested ≤ MEMORY) where
   abbrev it : HeldEntry
   it = entryAt (v .entries) k
 

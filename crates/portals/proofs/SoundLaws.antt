@@ -14,7 +14,7 @@ use Rattle.portals.specs.Sizes.{MEMORY, SLOTS, HEADERS, EVENTS}
 use Rattle.portals.specs.View.{View}
 use Rattle.portals.specs.Refusals.{sizesKept, hasHandle, distinct, handleGiven, localKept, entrySound, headerSound, keepsSlot, soundView}
 use Rattle.portals.specs.declared.layout.HeldEntry.{HeldEntry}
-use Rattle.portals.proofs.ListLaws.{both, neither, Part, nothing, keeps, leaves, part-none}
+use Rattle.portals.proofs.ListLaws.{both, neither, Part, nothing, keeps, leaves, part-none, any-set, none-join}
 
 pub record Sound (v : View) : Type 0 where
   pub size : v .size ≤ MEMORY
@@ -73,25 +73,13 @@ distinct-part (keeps {x} {l} {m} s) e =
     rw (part-none (hasHandle (x .handle)) s (not-true (any (hasHandle (x .handle)) m) (n .0))) (distinct-part s (n .1))
 distinct-part (leaves {x} {l} {m} s) e = distinct-part s (both (not (any (hasHandle (x .handle)) m)) (distinct m) e .1)
 
-any-handle-set : (h : ℕ) (l : List HeldEntry) (k : ℕ) (d x : HeldEntry) → x .handle ≡ getD l k d .handle
-    → any (hasHandle h) (set l k x) ≡ any (hasHandle h) l
-any-handle-set h [] k d x e = refl
-any-handle-set h (y ∷ l) zero d x e = rw e
-any-handle-set h (y ∷ l) (suc k) d x e = rw (any-handle-set h l k d x e)
-
 -- an entry is replaced by one of the same handle
 pub distinct-set : (l : List HeldEntry) (k : ℕ) (d x : HeldEntry) → x .handle ≡ getD l k d .handle → distinct l ≡ true → distinct (set l k x) ≡ true
 distinct-set [] k d x e h = refl
 distinct-set (y ∷ l) zero d x e h = rw e h
 distinct-set (y ∷ l) (suc k) d x e h =
     let s = both (not (any (hasHandle (y .handle)) l)) (distinct l) h in
-    rw (any-handle-set (y .handle) l k d x e, s .0) (distinct-set l k d x e (s .1))
-
-not-any-join : (h : ℕ) (l : List HeldEntry) (x : HeldEntry) → any (hasHandle h) l ≡ false → hasHandle h x ≡ false → any (hasHandle h) (l ++ (x ∷ [])) ≡ false
-not-any-join h [] x e k = rw k
-not-any-join h (y ∷ l) x e k =
-    let s = neither (hasHandle h y) (any (hasHandle h) l) e in
-    rw (s .0) (not-any-join h l x (s .1) k)
+    rw (any-set (hasHandle (y .handle)) l k d x (rw e), s .0) (distinct-set l k d x e (s .1))
 
 -- an entry with a handle of its own joins the end
 pub distinct-join : (l : List HeldEntry) (x : HeldEntry) → distinct l ≡ true → any (hasHandle (x .handle)) l ≡ false → distinct (l ++ (x ∷ [])) ≡ true
@@ -99,7 +87,7 @@ distinct-join [] x e h = refl
 distinct-join (y ∷ l) x e h =
     let s = both (not (any (hasHandle (y .handle)) l)) (distinct l) e in
     let t = neither (hasHandle (x .handle) y) (any (hasHandle (x .handle)) l) h in
-    rw (not-any-join (y .handle) l x (not-true _ (s .0)) (turned (y .handle) (x .handle) (t .0))) (distinct-join l x (s .1) (t .1))
+    rw (none-join (hasHandle (y .handle)) l x (not-true _ (s .0)) (turned (y .handle) (x .handle) (t .0))) (distinct-join l x (s .1) (t .1))
 
 -- a handle above the last given is no entry's
 pub handle-new : (size last h : ℕ) (l : List HeldEntry) → every (entrySound size last) l ≡ true → last < h → any (hasHandle h) l ≡ false
