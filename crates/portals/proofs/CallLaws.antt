@@ -2,7 +2,7 @@
 use mathlib.Core.Path.{_≡_, refl, sym, _∙_, subst}
 use mathlib.Core.Bool.{Bool, true, false, cond, true≢false, false≢true}
 use mathlib.Core.List.{List, [], _∷_}
-use Prim.Native.Nat.{ℕ, _+_, _≤_, _<_}
+use Prim.Native.Nat.{ℕ, _≤_, _<_}
 use native.Mathlib.Omega.{arith}
 use borrow.Author.Tests.{leb-true, ltb-true}
 use lib.Dec.{leb, ltb, eqb}
@@ -11,8 +11,6 @@ use Rattle.matching.specs.Refusals.{noneBad}
 use Rattle.matching.specs.Request.{arrivalOf, ackGiven}
 use Rattle.matching.specs.declared.layout.Entry.{Entry}
 use Rattle.matching.specs.declared.layout.Request.{Request}
-use Rattle.matching.specs.declared.refusals.Refusal.{Refusal}
-use Rattle.matching.specs.declared.refusals.Refusal.the-variants as Refusal
 use Rattle.matching.specs.declared.refusals.BadArgument.{BadArgument}
 use Rattle.matching.specs.declared.refusals.BadArgument.the-variants as BadArgument
 use Rattle.matching.specs.declared.request.Kind.{Kind}
@@ -20,7 +18,7 @@ use Rattle.matching.specs.declared.request.Kind.the-variants as Kind
 use Rattle.matching.specs.declared.request.Arrival.{Arrival}
 use Rattle.portals.specs.Sizes.{MEMORY, SLOTS, EVENTS, LAST-HANDLE}
 use Rattle.portals.specs.View.{View, emptyView}
-use Rattle.portals.specs.Refusals.{Condition}
+use Rattle.portals.specs.Refusals.{Condition, goodArguments}
 use Rattle.portals.specs.Answers.{Answer, MADE, PRIORITY, OVERFLOW, isRefused}
 use Rattle.portals.specs.Outcome.{Outcome, refusal, guarded}
 use Rattle.portals.specs.Making.{notMade, badSetting, new}
@@ -89,9 +87,9 @@ new-sound : (c : Settings) → Sound (new c .state)
 unfolding new
 new-sound c =
     guard-cases (λ (o : Outcome View Unit). Sound (o .state)) notMade
-    (record { passed = noneBad (badSetting c); refusal = Refusal.ArgInvalid } ∷ [])
+    (goodArguments (badSetting c) ∷ [])
     (record { answer = MADE; state = emptyView (c .size); buffer = tt })
-    (λ r. empty-sound 0 (omega arith))
+    (λ r. let fits : notMade r .state .size ≤ MEMORY = omega arith in empty-sound (notMade r .state .size) fits)
     (λ passed. empty-sound (c .size) (setting-fits c (passed .0)))
 
 -- ## A refusal changes nothing, and the memory's size is fixed

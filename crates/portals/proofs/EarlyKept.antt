@@ -1,10 +1,10 @@
 -- Append, unlink and search leave a sound state sound.
 use mathlib.Core.Path.{_≡_, refl}
-use mathlib.Core.Bool.{Bool, true, false, _&&_, _||_, not}
+use mathlib.Core.Bool.{Bool, true, false, _&&_, _||_}
 use mathlib.Core.List.{List, [], _∷_, _++_, map}
 use Prim.Native.Nat.{ℕ, _+_, _≤_, _<_}
 use native.Mathlib.Omega.{arith}
-use borrow.Author.Tests.{not-true, ltb-true, leb-true, le-leb, eqb-true}
+use borrow.Author.Tests.{not-true, ltb-true, le-leb, eqb-true}
 use lib.Dec.{eqb, leb, ltb}
 use lib.ListN.{length}
 use Rattle.matching.specs.Bits.{isSet}
@@ -15,15 +15,15 @@ use Rattle.matching.specs.declared.layout.Entry.{Entry}
 use Rattle.portals.specs.Lists.{every, any, select, withoutFirst}
 use Rattle.portals.specs.Sizes.{SLOTS, LAST-HANDLE}
 use Rattle.portals.specs.View.{View, isLinked, withEntries, withHeaders}
-use Rattle.portals.specs.Refusals.{hasHandle, handleGiven, localKept, entrySound, waitsIn, holds, bytesInside, lengthsKept, headerSound, keepsSlot}
+use Rattle.portals.specs.Refusals.{hasHandle, names, entrySound, waitsIn, holds, bytesInside, headerSound, keepsSlot}
 use Rattle.portals.specs.Outcome.{refusal}
 use Rattle.portals.specs.Events.{linkEvent, searchEvent, postAll}
-use Rattle.portals.specs.EarlyMessages.{fitsHeader, Walk, walk, walkFor, usesOnce, foundOnce, handOutEvents, handedOut, takenBy, tookAll, nextHandle, linked, appendBy, appendTests, append, isLinkedAs, unlinkTests, unlink, closingEvents, lookedAt, deleted, searchTests, search}
+use Rattle.portals.specs.EarlyMessages.{fitsHeader, Walk, walk, walkFor, usesOnce, foundOnce, handOutEvents, handedOut, takenBy, tookAll, nextHandle, newEntry, linked, appendBy, appendTests, append, isLinkedAs, unlinkTests, unlink, closingEvents, lookedAt, deleted, searchTests, search}
 use Rattle.portals.specs.declared.layout.HeldEntry.{HeldEntry}
 use Rattle.portals.specs.declared.layout.Header.{Header}
 use Rattle.portals.proofs.ListLaws.{both, joined, or-left, or-right, cond-cases, every-join, every-imply, every-imply-none, every-selected, Part, part-all, part-select, part-selectNot, part-withoutFirst, part-length, part-every, any-select, any-withoutFirst, any-join, join-fits}
 use Rattle.portals.proofs.GuardLaws.{guard-cases}
-use Rattle.portals.proofs.SoundLaws.{Sound, distinct-part, distinct-join, handle-new}
+use Rattle.portals.proofs.SoundLaws.{Sound, entry-facts, facts-entry, header-kept, distinct-part, distinct-join, handle-new}
 use Rattle.portals.proofs.KeptLaws.{Held, held-kept, counters-kept, queue-kept, post-fits, post-all-fits}
 
 -- ## The walk
@@ -54,14 +54,12 @@ still-named : (entries : List HeldEntry) (left l : List Header)
 still-named entries left [] within e = refl
 still-named entries left (h ∷ l) within e =
     let s = both (headerSound entries h) (every (headerSound entries) l) e in
-    let t = both (any (holds h) entries) (lengthsKept h) (s .0) in
     joined (headerSound (select (keepsSlot left) entries) h) (every (headerSound (select (keepsSlot left) entries)) l)
-    (joined (any (holds h) (select (keepsSlot left) entries)) (lengthsKept h)
+    (header-kept entries (select (keepsSlot left) entries) h
     (any-select (holds h) (keepsSlot left) entries
     (λ x held. or-right (isLinked x) (any (waitsIn x) left)
-    (within x (or-left (waitsIn x h) (any (waitsIn x) l) (waits x held))))
-    (t .0))
-    (t .1))
+    (within x (or-left (waitsIn x h) (any (waitsIn x) l) (waits x held)))))
+    (s .0))
     (still-named entries left l (λ x w. within x (or-right (waitsIn x h) (any (waitsIn x) l) w)) (s .1))
   where
     waits : (x : HeldEntry) → holds h x ≡ true → waitsIn x h ≡ true
@@ -98,40 +96,38 @@ handed-out-sound v e owner w s p =
 
 -- ## Linking
 
-module _ (v : View) (e : Entry) (sound : Sound v) (room : length (v .entries) < SLOTS) (good : noneBad (badEntryArgument e (v .size)) ≡ true) where
+module _ (v : View) (e : Entry) (sound : Sound v) (room : length (v .entries) < SLOTS)
+    (good : noneBad (badEntryArgument e (v .size)) ≡ true) where
   abbrev own : HeldEntry
-  own = record { entry = e; handle = nextHandle v; local = 0; retired = 0 }
+  own = newEntry e (nextHandle v)
+
+  above : v .last < nextHandle v
+  above = omega arith
 
   -- its handle is the last one given
   own-sound : entrySound (v .size) (nextHandle v) own ≡ true
   own-sound =
-      let least : 1 ≤ v .last + 1 = omega arith in
-      let most : v .last + 1 ≤ v .last + 1 = omega arith in
       let start : 0 ≤ e .length = omega arith in
-      joined (handleGiven (nextHandle v) own && noneBad (badEntryArgument e (v .size))) (localKept own)
-      (joined (handleGiven (nextHandle v) own) (noneBad (badEntryArgument e (v .size)))
-      (joined (leb 1 (nextHandle v)) (leb (nextHandle v) (nextHandle v)) (le-leb 1 (nextHandle v) least) (le-leb (nextHandle v) (nextHandle v) most))
-      good)
-      (joined (leb 0 (e .length)) (isSet (e .options) MANAGE-LOCAL || eqb 0 0) (le-leb 0 (e .length) start)
-      (or-right (isSet (e .options) MANAGE-LOCAL) (eqb 0 0) refl))
+      facts-entry (v .size) (nextHandle v) own
+      (record {
+        least = let n = above in omega arith;
+        most = omega arith;
+        good = good;
+        local =
+            joined (leb 0 (e .length)) (isSet (e .options) MANAGE-LOCAL || eqb 0 0) (le-leb 0 (e .length) start)
+            (or-right (isSet (e .options) MANAGE-LOCAL) (eqb 0 0) refl);
+      })
 
   -- a handle that was given stays given
   given-later : (x : HeldEntry) → entrySound (v .size) (v .last) x ≡ true → entrySound (v .size) (nextHandle v) x ≡ true
   given-later x h =
-      let a = both (handleGiven (v .last) x && noneBad (badEntryArgument (x .entry) (v .size))) (localKept x) h in
-      let b = both (handleGiven (v .last) x) (noneBad (badEntryArgument (x .entry) (v .size))) (a .0) in
-      let c = both (leb 1 (x .handle)) (leb (x .handle) (v .last)) (b .0) in
-      let n : x .handle ≤ v .last = leb-true (x .handle) (v .last) (c .1) in
-      let m : x .handle ≤ nextHandle v = omega arith in
-      joined (handleGiven (nextHandle v) x && noneBad (badEntryArgument (x .entry) (v .size))) (localKept x)
-      (joined (handleGiven (nextHandle v) x) (noneBad (badEntryArgument (x .entry) (v .size)))
-      (joined (leb 1 (x .handle)) (leb (x .handle) (nextHandle v)) (c .0) (le-leb (x .handle) (nextHandle v) m))
-      (b .1))
-      (a .1)
+      let f = entry-facts (v .size) (v .last) x h in
+      let n : x .handle ≤ v .last = f .most in
+      let m = above in
+      facts-entry (v .size) (nextHandle v) x (record { least = f .least; most = omega arith; good = f .good; local = f .local })
 
   pub linked-sound : Sound (linked v e)
   linked-sound =
-      let above : v .last < nextHandle v = omega arith in
       record {
         size = sound .size;
         slots = join-fits (v .entries) own SLOTS room;
@@ -144,8 +140,7 @@ module _ (v : View) (e : Entry) (sound : Sound v) (room : length (v .entries) < 
             own-sound;
         headers =
             every-imply (headerSound (v .entries)) (headerSound (v .entries ++ (own ∷ []))) (v .headers)
-            (λ h e. let s = both (any (holds h) (v .entries)) (lengthsKept h) e in
-            joined (any (holds h) (v .entries ++ (own ∷ []))) (lengthsKept h) (any-join (holds h) (v .entries) own (s .0)) (s .1))
+            (λ h. header-kept (v .entries) (v .entries ++ (own ∷ [])) h (any-join (holds h) (v .entries) own))
             (sound .headers);
         retired = every-join (keepsSlot (v .headers)) (v .entries) own (sound .retired) refl;
       }
@@ -176,7 +171,7 @@ append-sound v e s =
     (passed .0))
 
 -- an entry with another handle than a header names does not hold it
-other-handle : (h : Header) (handle : ℕ) (x : HeldEntry) → isLinkedAs handle x ≡ true → eqb (h .handle) handle ≡ false → holds h x ≡ false
+other-handle : (h : Header) (handle : ℕ) (x : HeldEntry) → isLinkedAs handle x ≡ true → names handle h ≡ false → holds h x ≡ false
 other-handle h handle x l n =
     let named : x .handle ≡ handle = eqb-true (x .handle) handle (both (isLinked x) (hasHandle handle x) l .1) in
     rw (named, n)
@@ -199,13 +194,12 @@ unlink-sound v handle s =
       entries = part-every (entrySound (v .size) (v .last)) part (s .entries);
       headers =
           every-imply-none (headerSound (v .entries)) (headerSound (withoutFirst (isLinkedAs handle) (v .entries)))
-          (λ h. eqb (h .handle) handle) (v .headers)
-          (λ h e n. let t = both (any (holds h) (v .entries)) (lengthsKept h) e in
-          joined (any (holds h) (withoutFirst (isLinkedAs handle) (v .entries))) (lengthsKept h)
-          (any-withoutFirst (holds h) (isLinkedAs handle) (v .entries) (λ x l. other-handle h handle x l n) (t .0))
-          (t .1))
+          (names handle) (v .headers)
+          (λ h e n. header-kept (v .entries) (withoutFirst (isLinkedAs handle) (v .entries)) h
+          (any-withoutFirst (holds h) (isLinkedAs handle) (v .entries) (λ x l. other-handle h handle x l n))
+          e)
           (s .headers)
-          (not-true (any (λ h. eqb (h .handle) handle) (v .headers)) (passed .1 .0));
+          (not-true (any (names handle) (v .headers)) (passed .1 .0));
       retired = part-every (keepsSlot (v .headers)) part (s .retired);
     })
 

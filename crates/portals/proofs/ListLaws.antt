@@ -23,6 +23,10 @@ or-left a b p = rw p
 pub or-right : (a b : Bool) → b ≡ true → (a || b) ≡ true
 or-right a b p = rw p (or-true a)
 
+pub never : (a : Bool) → (a ≡ true → ⊥) → not a ≡ true
+never true f = absurd (f refl)
+never false f = refl
+
 pub neither : (a b : Bool) → (a || b) ≡ false → (a ≡ false) × (b ≡ false)
 neither true b e = absurd (false≢true (sym e))
 neither false b e = (refl, e)
@@ -32,8 +36,8 @@ or-map true b c f e = refl
 or-map false b c f e = f e
 
 pub or-other : (a b : Bool) → (a ≡ true → ⊥) → (a || b) ≡ true → b ≡ true
-or-other true b never e = absurd (never refl)
-or-other false b never e = e
+or-other true b f e = absurd (f refl)
+or-other false b f e = e
 
 -- a test decides which of two values it is
 pub cond-cases : {A : Type 0} (P : A → Type 0) (b : Bool) (x y : A) → (b ≡ true → P x) → (b ≡ false → P y) → P (cond b x y)

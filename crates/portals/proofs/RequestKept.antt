@@ -5,13 +5,13 @@ use mathlib.Core.List.{List, [], _∷_, _++_}
 use mathlib.Core.Option.{none}
 use Prim.Native.Nat.{ℕ, _+_, _≤_, _<_}
 use native.Mathlib.Omega.{arith}
-use borrow.Author.Tests.{not-true, ltb-true, leb-true, le-leb, eqb-true, eq-eqb, ne-eqb}
+use borrow.Author.Tests.{not-true, ltb-true, leb-true, le-leb, eqb-true, eq-eqb}
 use lib.Dec.{eqb, leb, ltb}
 use lib.ListN.{length, set, length-set}
 use Rattle.matching.specs.Bits.{isSet}
 use Rattle.matching.specs.Refusals.{noneBad}
 use Rattle.matching.specs.Entry.{ANY, MANAGE-LOCAL, badEntryArgument}
-use Rattle.matching.specs.Request.{badRequestArgument, arrivalOf, matches, verdictOn, accepted, place, localAfter, unlinks}
+use Rattle.matching.specs.Request.{badRequestArgument, arrivalOf, verdictOn, accepted, place, localAfter, unlinks}
 use Rattle.matching.specs.EarlyMessages.{takesHeaders}
 use Rattle.matching.specs.declared.layout.Entry.{Entry}
 use Rattle.matching.specs.declared.layout.Request.{Request}
@@ -26,7 +26,7 @@ use Rattle.matching.proofs.RequestLaws.{accepted-requested, place-start, place-
 use Rattle.portals.specs.Lists.{every, any, firstFrom, removeAt}
 use Rattle.portals.specs.Sizes.{MEMORY, HEADERS}
 use Rattle.portals.specs.View.{View, isLinked, zeroEntry, withEntries, withHeaders, withQueue}
-use Rattle.portals.specs.Refusals.{handleGiven, localKept, entrySound, waitsIn, holds, bytesInside, lengthsKept, headerSound, keepsSlot}
+use Rattle.portals.specs.Refusals.{localKept, entrySound, waitsIn, holds, bytesInside, lengthsKept, headerSound, keepsSlot}
 use Rattle.portals.specs.Outcome.{refusal}
 use Rattle.portals.specs.Events.{postAll}
 use Rattle.portals.specs.Request.{isIn, isCandidate, orElse, choose, entryAt, hasRoom, decideBy, decideAt, decideOn, decide, message, planFor, plan, requestEvents, entryAfter, entriesAfter, headersAfter, countersAfter, delivered, requestState, requestTests, put, get}
@@ -37,48 +37,39 @@ use Rattle.portals.specs.declared.requests.Choice.the-variants as Choice
 use Rattle.portals.specs.declared.requests.Decision.{Decision}
 use Rattle.portals.specs.declared.requests.Decision.the-variants as Decision
 use Rattle.portals.specs.declared.requests.Plan.{Plan}
-use Rattle.portals.proofs.ListLaws.{both, joined, or-left, or-right, or-map, or-other, every-at, every-set, every-join, every-imply, part-removeAt, part-length, part-every, any-at, any-set, any-removeAt, any-join, any-last, join-fits, get-set, Found, first-cases, first-none}
+use Rattle.portals.proofs.ListLaws.{both, joined, never, or-left, or-right, or-map, or-other, every-at, every-set, every-join, every-imply, part-removeAt, part-length, part-every, any-at, any-set, any-removeAt, any-join, any-last, join-fits, get-set, Found, first-cases, first-none}
 use Rattle.portals.proofs.GuardLaws.{guard-cases}
-use Rattle.portals.proofs.SoundLaws.{Sound, distinct-part, distinct-set}
+use Rattle.portals.proofs.SoundLaws.{Sound, entry-facts, facts-entry, header-kept, distinct-part, distinct-set}
 use Rattle.portals.proofs.KeptLaws.{Held, held-kept, counters-kept, registers-kept, queue-kept, post-all-fits}
 
 -- ## What a decision to deliver says of the entry at its place
 
-pub record Chosen (entries : List HeldEntry) (headers : List Header) (portal : ℕ) (a : Arrival) (k : ℕ) : Type 0 where
+pub record Chosen (entries : List HeldEntry) (headers : List Header) (portal : ℕ) (k : ℕ) : Type 0 where
   pub inside : k < length entries
-  pub linked : isLinked (entryAt entries k) ≡ true
   pub portalOf : entryAt entries k .entry .portal ≡ portal
-  pub matching : matches (entryAt entries k .entry) (entryAt entries k .local) a ≡ true
-  pub granted : verdictOn (entryAt entries k .entry) a ≡ Verdict.Granted
   pub room : hasRoom headers (entryAt entries k) ≡ true
+
+-- an entry that may be chosen is at the request's portal
+at-portal : (portal list : ℕ) (a : Arrival) (x : HeldEntry) → isCandidate portal list a x ≡ true → x .entry .portal ≡ portal
+at-portal portal list a x e =
+    let s = both (isIn portal list x) _ e in
+    let t = both (isLinked x && eqb (x .entry .portal) portal) (eqb (x .entry .list) list) (s .0) in
+    eqb-true (x .entry .portal) portal (both (isLinked x) (eqb (x .entry .portal) portal) (t .0) .1)
 
 module _ (entries : List HeldEntry) (headers : List Header) (portal : ℕ) (a : Arrival) (P : Decision → Type 0) (drop : P Decision.Drop)
     (permission : P Decision.DenyPermission) (operation : P Decision.DenyOperation)
-    (deliver : (k : ℕ) → Chosen entries headers portal a k → P (Decision.Deliver k)) where
+    (deliver : (k : ℕ) → Chosen entries headers portal k → P (Decision.Deliver k)) where
   judged : (list k : ℕ) → Found (isCandidate portal list a) entries zeroEntry k → (verdict : Verdict) (room : Bool)
-      → verdictOn (entryAt entries k .entry) a ≡ verdict
       → hasRoom headers (entryAt entries k) ≡ room
       → P (decideBy verdict room k)
-  judged list k f Verdict.PermissionViolation room p q = permission
-  judged list k f Verdict.OperationViolation room p q = operation
-  judged list k f Verdict.Granted false p q = drop
-  judged list k f Verdict.Granted true p q =
-      let x = entryAt entries k in
-      let s = both (isIn portal list x) (matches (x .entry) (x .local) a) (f .passes) in
-      let t = both (isLinked x && eqb (x .entry .portal) portal) (eqb (x .entry .list) list) (s .0) in
-      let u = both (isLinked x) (eqb (x .entry .portal) portal) (t .0) in
-      deliver k
-      (record {
-        inside = f .inside;
-        linked = u .0;
-        portalOf = eqb-true (x .entry .portal) portal (u .1);
-        matching = s .1;
-        granted = p;
-        room = q;
-      })
+  judged list k f Verdict.PermissionViolation room q = permission
+  judged list k f Verdict.OperationViolation room q = operation
+  judged list k f Verdict.Granted false q = drop
+  judged list k f Verdict.Granted true q =
+      deliver k (record { inside = f .inside; portalOf = at-portal portal list a (entryAt entries k) (f .passes); room = q })
 
   at-place : (list k : ℕ) → Found (isCandidate portal list a) entries zeroEntry k → P (decideAt entries headers a k)
-  at-place list k f = judged list k f (verdictOn (entryAt entries k .entry) a) (hasRoom headers (entryAt entries k)) refl refl
+  at-place list k f = judged list k f (verdictOn (entryAt entries k .entry) a) (hasRoom headers (entryAt entries k)) refl
 
   in-overflow : P (decideOn entries headers a (orElse Choice.Overflow (firstFrom (isCandidate portal 1 a) 0 entries) Choice.Nothing))
   in-overflow =
@@ -107,30 +98,26 @@ portal-fits e size h = leb-true (e .portal) 7 (by (leb (e .portal) 7) _ h)
     by true rest h = refl
     by false rest h = h
 
+-- so none may be chosen above
 elsewhere : (size last portal list : ℕ) (a : Arrival) (x : HeldEntry)
     → 7 < portal
     → entrySound size last x ≡ true
     → not (isCandidate portal list a x) ≡ true
 elsewhere size last portal list a x above e =
-    let s = both (handleGiven last x && noneBad (badEntryArgument (x .entry) size)) (localKept x) e in
-    let n = portal-fits (x .entry) size (both (handleGiven last x) (noneBad (badEntryArgument (x .entry) size)) (s .0) .1) in
-    rw (ne-eqb (x .entry .portal) portal (λ same. omega arith)) (off (isLinked x) (eqb (x .entry .list) list) (matches (x .entry) (x .local) a))
-  where
-    off : (b c d : Bool) → not (b && false && c && d) ≡ true
-    off true c d = refl
-    off false c d = refl
+    let n = portal-fits (x .entry) size (entry-facts size last x e .good) in
+    never (isCandidate portal list a x) (λ c. let p = at-portal portal list a x c in omega arith)
+
+none-first : (v : View) (portal list : ℕ) (a : Arrival) → Sound v → 7 < portal → firstFrom (isCandidate portal list a) 0 (v .entries) ≡ none
+none-first v portal list a s above =
+    first-none (isCandidate portal list a) 0 (v .entries)
+    (every-imply (entrySound (v .size) (v .last)) (λ x. not (isCandidate portal list a x)) (v .entries)
+    (λ x e. elsewhere (v .size) (v .last) portal list a x above e)
+    (s .entries))
 
 -- rule 3: none is chosen there
 pub none-beyond : (v : View) (portal : ℕ) (a : Arrival) → Sound v → 7 < portal → decide (v .entries) (v .headers) portal a ≡ Decision.Drop
 unfolding decide choose
-none-beyond v portal a s above =
-    let away : (list : ℕ) → firstFrom (isCandidate portal list a) 0 (v .entries) ≡ none =
-    λ list. first-none (isCandidate portal list a) 0 (v .entries)
-    (every-imply (entrySound (v .size) (v .last)) (λ x. not (isCandidate portal list a x)) (v .entries)
-    (λ x e. elsewhere (v .size) (v .last) portal list a x above e)
-    (s .entries))
-    in
-    rw (away 0, away 1)
+none-beyond v portal a s above = rw (none-first v portal 0 a s above, none-first v portal 1 a s above)
 
 -- ## The entry after the request
 
@@ -157,9 +144,14 @@ module _ (size last : ℕ) (x : HeldEntry) (k portal : ℕ) (a : Arrival) where
   -- it keeps its entry and its handle, and its offset stays in bounds
   entry-kept : entrySound size last x ≡ true → entrySound size last (entryAfter (planFor x k portal a)) ≡ true
   entry-kept e =
-      let s = both (handleGiven last x && noneBad (badEntryArgument (x .entry) size)) (localKept x) e in
-      joined (handleGiven last x && noneBad (badEntryArgument (x .entry) size)) (localKept (entryAfter (planFor x k portal a))) (s .0)
-      (local-kept (isSet (x .entry .options) MANAGE-LOCAL) refl (s .1))
+      let f = entry-facts size last x e in
+      facts-entry size last (entryAfter (planFor x k portal a))
+      (record {
+        least = f .least;
+        most = f .most;
+        good = f .good;
+        local = local-kept (isSet (x .entry .options) MANAGE-LOCAL) refl (f .local);
+      })
 
 -- its message lies inside its region
 message-held : (x : HeldEntry) (portal : ℕ) (a : Arrival)
@@ -197,7 +189,7 @@ holds-none h x t = rw t (off (waitsIn x h && eqb (x .entry .portal) (h .portal))
 -- ## The entries and headers after a delivery
 
 module _ (v : View) (sound : Sound v) (portal : ℕ) (a : Arrival) (k : ℕ)
-    (chosen : Chosen (v .entries) (v .headers) portal a k) (size : a .requested ≤ MEMORY) where
+    (chosen : Chosen (v .entries) (v .headers) portal k) (size : a .requested ≤ MEMORY) where
   abbrev it : HeldEntry
   it = entryAt (v .entries) k
 
@@ -220,7 +212,8 @@ module _ (v : View) (sound : Sound v) (portal : ℕ) (a : Arrival) (k : ℕ)
         entriesSound = part-every (entrySound (v .size) (v .last)) p (sound .entries);
         headersSound =
             every-imply (headerSound (v .entries)) (headerSound (removeAt k (v .entries))) (v .headers)
-            (λ h e. rw (any-removeAt (holds h) (v .entries) k zeroEntry (holds-none h it t)) e)
+            (λ h. header-kept (v .entries) (removeAt k (v .entries)) h
+            (λ e. rw (any-removeAt (holds h) (v .entries) k zeroEntry (holds-none h it t)) e))
             (sound .headers);
         retired = part-every (keepsSlot (v .headers)) p (sound .retired);
       }
@@ -257,7 +250,7 @@ module _ (v : View) (sound : Sound v) (portal : ℕ) (a : Arrival) (k : ℕ)
   waited : every (headerSound placed) (v .headers) ≡ true
   waited =
       every-imply (headerSound (v .entries)) (headerSound placed) (v .headers)
-      (λ h e. rw (any-set (holds h) (v .entries) k zeroEntry (entryAfter planned) refl) e)
+      (λ h. header-kept (v .entries) placed h (λ e. rw (any-set (holds h) (v .entries) k zeroEntry (entryAfter planned) refl) e))
       (sound .headers)
 
   -- its header finds a place, names it, and waits in it

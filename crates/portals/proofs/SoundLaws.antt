@@ -12,9 +12,10 @@ use Rattle.matching.specs.Entry.{badEntryArgument}
 use Rattle.portals.specs.Lists.{every, any}
 use Rattle.portals.specs.Sizes.{MEMORY, SLOTS, HEADERS, EVENTS}
 use Rattle.portals.specs.View.{View}
-use Rattle.portals.specs.Refusals.{sizesKept, hasHandle, distinct, handleGiven, localKept, entrySound, headerSound, keepsSlot, soundView}
+use Rattle.portals.specs.Refusals.{sizesKept, hasHandle, distinct, handleGiven, localKept, entrySound, holds, lengthsKept, headerSound, keepsSlot, soundView}
 use Rattle.portals.specs.declared.layout.HeldEntry.{HeldEntry}
-use Rattle.portals.proofs.ListLaws.{both, neither, Part, nothing, keeps, leaves, part-none, any-set, none-join}
+use Rattle.portals.specs.declared.layout.Header.{Header}
+use Rattle.portals.proofs.ListLaws.{both, joined, neither, Part, nothing, keeps, leaves, part-none, any-set, none-join}
 
 pub record Sound (v : View) : Type 0 where
   pub size : v .size ≤ MEMORY
@@ -61,10 +62,44 @@ facts-sound v s =
       s .retired,
     )
 
+-- ## One entry
+
+pub record EntryFacts (size last : ℕ) (x : HeldEntry) : Type 0 where
+  pub least : 1 ≤ x .handle
+  pub most : x .handle ≤ last
+  pub good : noneBad (badEntryArgument (x .entry) size) ≡ true
+  pub local : localKept x ≡ true
+
+pub entry-facts : (size last : ℕ) (x : HeldEntry) → entrySound size last x ≡ true → EntryFacts size last x
+entry-facts size last x e =
+    let a = both (handleGiven last x && noneBad (badEntryArgument (x .entry) size)) (localKept x) e in
+    let b = both (handleGiven last x) (noneBad (badEntryArgument (x .entry) size)) (a .0) in
+    let c = both (leb 1 (x .handle)) (leb (x .handle) last) (b .0) in
+    record {
+      least = leb-true 1 (x .handle) (c .0);
+      most = leb-true (x .handle) last (c .1);
+      good = b .1;
+      local = a .1;
+    }
+
+pub facts-entry : (size last : ℕ) (x : HeldEntry) → EntryFacts size last x → entrySound size last x ≡ true
+facts-entry size last x f = rw (le-leb 1 (x .handle) (f .least), le-leb (x .handle) last (f .most), f .good, f .local)
+
+-- ## One header
+
+-- a header is as sound among other entries if one of them holds it
+pub header-kept : (entries others : List HeldEntry) (h : Header)
+    → (any (holds h) entries ≡ true → any (holds h) others ≡ true)
+    → headerSound entries h ≡ true
+    → headerSound others h ≡ true
+header-kept entries others h f e =
+    let s = both (any (holds h) entries) (lengthsKept h) e in
+    joined (any (holds h) others) (lengthsKept h) (f (s .0)) (s .1)
+
 -- ## Handles stay distinct
 
-turned : (a b : ℕ) → eqb a b ≡ false → eqb b a ≡ false
-turned a b e = ne-eqb b a (λ p. eqb-false a b e (sym p))
+eqb-turned : (a b : ℕ) → eqb a b ≡ false → eqb b a ≡ false
+eqb-turned a b e = ne-eqb b a (λ p. eqb-false a b e (sym p))
 
 pub distinct-part : {l m : List HeldEntry} → Part l m → distinct m ≡ true → distinct l ≡ true
 distinct-part nothing e = refl
@@ -87,14 +122,12 @@ distinct-join [] x e h = refl
 distinct-join (y ∷ l) x e h =
     let s = both (not (any (hasHandle (y .handle)) l)) (distinct l) e in
     let t = neither (hasHandle (x .handle) y) (any (hasHandle (x .handle)) l) h in
-    rw (none-join (hasHandle (y .handle)) l x (not-true _ (s .0)) (turned (y .handle) (x .handle) (t .0))) (distinct-join l x (s .1) (t .1))
+    rw (none-join (hasHandle (y .handle)) l x (not-true _ (s .0)) (eqb-turned (y .handle) (x .handle) (t .0))) (distinct-join l x (s .1) (t .1))
 
 -- a handle above the last given is no entry's
 pub handle-new : (size last h : ℕ) (l : List HeldEntry) → every (entrySound size last) l ≡ true → last < h → any (hasHandle h) l ≡ false
 handle-new size last h [] e k = refl
 handle-new size last h (y ∷ l) e k =
     let s = both (entrySound size last y) (every (entrySound size last) l) e in
-    let t = both (handleGiven last y && noneBad (badEntryArgument (y .entry) size)) (localKept y) (s .0) in
-    let g = both (handleGiven last y) (noneBad (badEntryArgument (y .entry) size)) (t .0) in
-    let n : y .handle ≤ last = leb-true (y .handle) last (both (leb 1 (y .handle)) (leb (y .handle) last) (g .0) .1) in
+    let n : y .handle ≤ last = entry-facts size last y (s .0) .most in
     rw (ne-eqb (y .handle) h (λ p. omega arith)) (handle-new size last h l (s .1) k)

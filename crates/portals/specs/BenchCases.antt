@@ -12,14 +12,13 @@ use Rattle.matching.specs.declared.layout.Request.{Request}
 use Rattle.matching.specs.declared.request.Kind.{Kind}
 use Rattle.matching.specs.declared.request.Kind.the-variants as Kind
 use Rattle.matching.specs.declared.request.Arrival.{Arrival}
-use Rattle.portals.specs.View.{View, EventQueue, emptyView, withLast, withEntries, withHeaders, withQueue}
+use Rattle.portals.specs.View.{View, EventQueue, emptyQueue, emptyView, withLast, withEntries, withHeaders, withQueue}
 use Rattle.portals.specs.Refusals.{soundView}
 use Rattle.portals.specs.Answers.{Answer, REFUSED, LINKED, OVERFLOW, DROPPED, PERM, OP, COUNTER}
 use Rattle.portals.specs.Events.{Issued, linkEvent, post, readEvent}
 use Rattle.portals.specs.Counters.{setCounter, increment, readCounter}
 use Rattle.portals.specs.Request.{message, put}
-use Rattle.portals.specs.EarlyMessages.{append}
-use Rattle.portals.specs.declared.layout.HeldEntry.{HeldEntry}
+use Rattle.portals.specs.EarlyMessages.{newEntry, append}
 use Rattle.portals.specs.declared.layout.Event.{Event}
 use Rattle.portals.specs.declared.layout.Registers.{Registers}
 use Rattle.portals.specs.declared.layout.CounterChange.{CounterChange}
@@ -76,7 +75,7 @@ Holds (putting v memory q payload answer registers waiting) =
 Holds (counting x y answer) = readCounter (increment (setCounter (emptyView 0) x .state) y .state) (x .counter) ≡ answer
 Holds (queueing ts seen lost) =
     _≡_ {A = List (ℕ × ℕ) × ℕ}
-    (map userAndGap (turns (record { events = []; lost = 0 }) ts .events), turns (record { events = []; lost = 0 }) ts .lost)
+    (map userAndGap (turns emptyQueue ts .events), turns emptyQueue ts .lost)
     (seen, lost)
 Holds (appending v e answer) = _≡_ {A = Bool × Answer} (soundView v, append v e .answer) (true, answer)
 
@@ -130,18 +129,15 @@ putFor matchbits = arrivalOf (requestOf matchbits 0) Kind.Put 1
 abbrev pub putOf : ℕ → ℕ → Arrival
 putOf offset requested = arrivalOf (requestOf 5 offset) Kind.Put requested
 
-abbrev pub held : Entry → ℕ → HeldEntry
-held e handle = record { entry = e; handle = handle; local = 0; retired = 0 }
-
 -- a target with 16 bytes of memory and two linked entries
 abbrev pub twoEntries : Entry → Entry → View
-twoEntries e f = withLast (withEntries (emptyView 16) (held e 1 ∷ held f 2 ∷ [])) 2
+twoEntries e f = withLast (withEntries (emptyView 16) (newEntry e 1 ∷ newEntry f 2 ∷ [])) 2
 
 -- a target with two overflow entries: the first with these options, and a second one in which so many messages wait
 abbrev pub waiting : ℕ → ℕ → View
 waiting options n =
     withHeaders (twoEntries (entryWith 1 options 0 8 0 ANY) (entryWith 1 1 8 8 0 ANY))
-    (replicate n (message (held (entryWith 1 1 8 8 0 ANY) 2) 0 (putOf 0 1)))
+    (replicate n (message (newEntry (entryWith 1 1 8 8 0 ANY) 2) 0 (putOf 0 1)))
 
 abbrev pub registers : ℕ → ℕ → ℕ → Registers
 registers dropped permission operation = record { dropped = dropped; permission = permission; operation = operation }

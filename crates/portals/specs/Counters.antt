@@ -2,18 +2,16 @@
 use mathlib.Core.Bool.{Bool, _||_, not, cond}
 use mathlib.Core.List.{List, [], _∷_}
 use mathlib.Core.Option.{Option, none, some}
-use Prim.Native.Nat.{ℕ, zero, suc, _+_, _^_, _%_}
+use Prim.Native.Nat.{ℕ, suc, _+_, _^_, _%_}
 use lib.Dec.{eqb, leb}
 use lib.ListN.{length, set, getD}
-use Rattle.matching.specs.Refusals.{firstBad, noneBad}
+use Rattle.matching.specs.Refusals.{firstBad}
 use Rattle.matching.specs.Entry.{isCounter}
-use Rattle.matching.specs.declared.refusals.Refusal.{Refusal}
-use Rattle.matching.specs.declared.refusals.Refusal.the-variants as Refusal
 use Rattle.matching.specs.declared.refusals.BadArgument.{BadArgument}
 use Rattle.matching.specs.declared.refusals.BadArgument.the-variants as BadArgument
 use Rattle.portals.specs.Lists.{every}
-use Rattle.portals.specs.View.{View, withCounters}
-use Rattle.portals.specs.Refusals.{Condition}
+use Rattle.portals.specs.View.{View, zeroCounter, withCounters}
+use Rattle.portals.specs.Refusals.{Condition, goodArguments}
 use Rattle.portals.specs.Answers.{Answer, DONE, COUNTER, REGISTER, READY, NOT-READY, REACHED, NONE-REACHED}
 use Rattle.portals.specs.Outcome.{Outcome, guarded, guardedRead}
 use Rattle.portals.specs.declared.layout.Counter.{Counter}
@@ -27,7 +25,7 @@ plus64 a b = (a + b) % 2 ^ 64
 
 -- counter k; all zero where there is none
 abbrev pub counterAt : List Counter → ℕ → Counter
-counterAt counters k = getD counters k (record { success = 0; failure = 0 })
+counterAt counters k = getD counters k zeroCounter
 
 abbrev pub increased : Counter → ℕ → ℕ → Counter
 increased c success failure = record { success = plus64 (c .success) success; failure = plus64 (c .failure) failure }
@@ -43,7 +41,7 @@ abbrev pub badCounterArgument : ℕ → BadArgument
 badCounterArgument k = firstBad (record { passed = isCounter k; argument = BadArgument.Counter } ∷ [])
 
 abbrev pub counterTests : ℕ → List Condition
-counterTests k = record { passed = noneBad (badCounterArgument k); refusal = Refusal.ArgInvalid } ∷ []
+counterTests k = goodArguments (badCounterArgument k) ∷ []
 
 abbrev pub counterDone : View → ℕ → Counter → Outcome View Unit
 counterDone v k c = record { answer = DONE; state = withCounters v (set (v .counters) k c); buffer = tt }
@@ -102,8 +100,7 @@ reachedAnswer (some i) = REACHED i
 
 unfoldable pub poll : View → List ℕ → List ℕ → Answer
 poll v ks tests =
-    guardedRead
-    (record { passed = noneBad (badPollArgument ks tests); refusal = Refusal.ArgInvalid } ∷ [])
+    guardedRead (goodArguments (badPollArgument ks tests) ∷ [])
     (reachedAnswer (reachedFrom (v .counters) 0 ks tests))
 
 -- ## The registers
@@ -117,8 +114,7 @@ registerAt r k = cond (eqb k 0) (r .dropped) (cond (eqb k 1) (r .permission) (r 
 
 unfoldable pub readRegister : View → ℕ → Answer
 readRegister v k =
-    guardedRead
-    (record { passed = noneBad (badRegisterArgument k); refusal = Refusal.ArgInvalid } ∷ [])
+    guardedRead (goodArguments (badRegisterArgument k) ∷ [])
     (REGISTER (registerAt (v .registers) k))
 
 -- "adds 1, modulo 2^64, to its own register and changes nothing else"

@@ -5,7 +5,7 @@ use Prim.Native.Nat.{ℕ, _+_}
 use lib.Dec.{eqb, ltb}
 use lib.ListN.{length}
 use Rattle.matching.specs.Bits.{isSet}
-use Rattle.matching.specs.Refusals.{firstBad, noneBad}
+use Rattle.matching.specs.Refusals.{firstBad}
 use Rattle.matching.specs.Entry.{USE-ONCE, badEntryArgument}
 use Rattle.matching.specs.EarlyMessages.{fits}
 use Rattle.matching.specs.Counters.{overflowAmount}
@@ -19,7 +19,7 @@ use Rattle.portals.specs.Lists.{any, select, selectNot, firstOnly, witho
 use Rattle.portals.specs.Sizes.{SLOTS, LAST-HANDLE}
 use Rattle.portals.specs.Kinds.{kindOf}
 use Rattle.portals.specs.View.{View, isLinked, isRetired, withLast, withEntries, withHeaders, withQueue, withCounters}
-use Rattle.portals.specs.Refusals.{hasHandle, waitsIn, keepsSlot, Condition}
+use Rattle.portals.specs.Refusals.{hasHandle, names, waitsIn, keepsSlot, Condition, goodArguments}
 use Rattle.portals.specs.Answers.{LINKED, TAKEN, DONE, SEARCHED}
 use Rattle.portals.specs.Outcome.{Outcome, guarded}
 use Rattle.portals.specs.Events.{Issued, linkEvent, overflowEvent, autoFreeEvent, searchEvent, noMatchEvent, post, postAll}
@@ -104,13 +104,15 @@ tookAll v e owner w =
 abbrev pub nextHandle : View → ℕ
 nextHandle v = v .last + 1
 
--- "the entry is linked at its list's end"; "Local offset does not move."; LINK
+-- linked, with its handle; "Local offset does not move.", whatever was taken
+abbrev pub newEntry : Entry → ℕ → HeldEntry
+newEntry e handle = record { entry = e; handle = handle; local = 0; retired = 0 }
+
+-- "the entry is linked at its list's end"; LINK
 abbrev pub linked : View → Entry → View
 linked v e =
     withQueue
-    (withLast
-    (withEntries v (v .entries ++ (record { entry = e; handle = nextHandle v; local = 0; retired = 0 } ∷ [])))
-    (nextHandle v))
+    (withLast (withEntries v (v .entries ++ (newEntry e (nextHandle v) ∷ []))) (nextHandle v))
     (post (v .queue) (linkEvent e (nextHandle v)))
 
 -- "USE_ONCE with a fit: the first is taken, nothing is linked, the answer is TAKEN, no handle is used and no link or unlink event
@@ -129,7 +131,7 @@ hasSpace v = ltb (length (v .entries)) SLOTS && ltb (v .last) LAST-HANDLE
 
 abbrev pub appendTests : View → Entry → List Condition
 appendTests v e =
-    record { passed = noneBad (badEntryArgument e (v .size)); refusal = Refusal.ArgInvalid }
+    goodArguments (badEntryArgument e (v .size))
     ∷ record { passed = hasSpace v; refusal = Refusal.NoSpace }
     ∷ []
 
@@ -149,8 +151,8 @@ badHandleArgument v handle =
 -- IN_USE: "unlink: messages wait in this overflow entry": only an overflow entry is named by a sound state's headers
 abbrev pub unlinkTests : View → ℕ → List Condition
 unlinkTests v handle =
-    record { passed = noneBad (badHandleArgument v handle); refusal = Refusal.ArgInvalid }
-    ∷ record { passed = not (any (λ h. eqb (h .handle) handle) (v .headers)); refusal = Refusal.InUse }
+    goodArguments (badHandleArgument v handle)
+    ∷ record { passed = not (any (names handle) (v .headers)); refusal = Refusal.InUse }
     ∷ []
 
 -- "Unlink removes a linked entry, without event"
@@ -184,7 +186,7 @@ searched v e w = record {
 }
 
 abbrev pub searchTests : View → Entry → List Condition
-searchTests v e = record { passed = noneBad (badEntryArgument e (v .size)); refusal = Refusal.ArgInvalid } ∷ []
+searchTests v e = goodArguments (badEntryArgument e (v .size)) ∷ []
 
 unfoldable pub search : View → Entry → Outcome View Unit
 search v e = guarded v tt (searchTests v e) (searched v e (walkFor e (v .headers)))

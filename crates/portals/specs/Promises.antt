@@ -41,10 +41,10 @@ pub record ReadMet (call : View → Answer) (t : Target) (answer : Answer) : Typ
   pub outcome : answer ≡ readUnlessUnsound call (seen t)
 
 -- Making a target: there is no state before it. What it makes is `newTarget` in every bit, and sound, also beside a refusal.
-pub record NewMet (c : Settings) (r : NewDone) : Type 0 where
-  pub answer : newAnswer (r .answer) ≡ new c .answer
-  pub target : r .target ≡ newTarget (new c .state .size)
-  pub state : seen (r .target) ≡ sound (new c .state)
+pub record NewMet (s : Settings) (r : NewDone) : Type 0 where
+  pub answer : newAnswer (r .answer) ≡ new s .answer
+  pub target : r .target ≡ newTarget (new s .state .size)
+  pub state : seen (r .target) ≡ sound (new s .state)
 
 -- ## One for each call
 

@@ -9,6 +9,8 @@ use Rattle.matching.specs.Refusals.{noneBad}
 use Rattle.matching.specs.Entry.{MANAGE-LOCAL, badEntryArgument}
 use Rattle.matching.specs.EarlyMessages.{takesHeaders}
 use Rattle.matching.specs.declared.refusals.Refusal.{Refusal}
+use Rattle.matching.specs.declared.refusals.Refusal.the-variants as Refusal
+use Rattle.matching.specs.declared.refusals.BadArgument.{BadArgument}
 use Rattle.portals.specs.Lists.{every, any}
 use Rattle.portals.specs.Sizes.{MEMORY, SLOTS, HEADERS, EVENTS}
 use Rattle.portals.specs.View.{View, isLinked, viewOf}
@@ -47,9 +49,12 @@ localKept x = leb (x .local) (x .entry .length) && (isSet (x .entry .options) MA
 abbrev pub entrySound : ℕ → ℕ → HeldEntry → Bool
 entrySound size last x = handleGiven last x && noneBad (badEntryArgument (x .entry) size) && localKept x
 
--- a message waits in the entry: its header names it
+-- a header names the entry in which its message waits by its handle
+abbrev pub names : ℕ → Header → Bool
+names handle h = eqb (h .handle) handle
+
 abbrev pub waitsIn : HeldEntry → Header → Bool
-waitsIn x h = eqb (h .handle) (x .handle)
+waitsIn x h = names (x .handle) h
 
 -- "its bytes inside that entry's region": also where there are none, the place is one of the region or its end (decision 6)
 abbrev pub bytesInside : HeldEntry → Header → Bool
@@ -104,6 +109,10 @@ seen t = seenIf (isSound t) t
 pub record Condition : Type 0 where
   pub passed : Bool
   pub refusal : Refusal
+
+-- ARG_INVALID: the first bad argument of the call is none
+abbrev pub goodArguments : BadArgument → Condition
+goodArguments argument = record { passed = noneBad argument; refusal = Refusal.ArgInvalid }
 
 -- "Tested in this order. Each returns its number only and changes nothing.": the first refusal of a test that is not passed, or
 -- else what the call does

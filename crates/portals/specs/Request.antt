@@ -6,7 +6,6 @@ use mathlib.Core.Option.{Option, none, some}
 use Prim.Native.Nat.{ℕ}
 use lib.Dec.{eqb, ltb}
 use lib.ListN.{length, take, drop, set, getD}
-use Rattle.matching.specs.Refusals.{noneBad}
 use Rattle.matching.specs.Request.{badRequestArgument, arrivalOf, offsetUsed, matches, verdictOn, accepted, place, localAfter, unlinks, ackAsked, ackGiven}
 use Rattle.matching.specs.EarlyMessages.{takesHeaders}
 use Rattle.matching.specs.Counters.{commAmount}
@@ -22,7 +21,7 @@ use Rattle.portals.specs.Lists.{firstFrom, removeAt, overwritten}
 use Rattle.portals.specs.Sizes.{HEADERS}
 use Rattle.portals.specs.Kinds.{kindNumber}
 use Rattle.portals.specs.View.{View, isLinked, zeroEntry, withEntries, withHeaders, withQueue, withCounters, withRegisters}
-use Rattle.portals.specs.Refusals.{Condition}
+use Rattle.portals.specs.Refusals.{Condition, goodArguments}
 use Rattle.portals.specs.Answers.{Answer, PRIORITY, OVERFLOW, DROPPED, PERM, OP}
 use Rattle.portals.specs.Outcome.{Outcome, guarded}
 use Rattle.portals.specs.Events.{Issued, arrivalEvent, autoUnlinkEvent, postAll}
@@ -204,7 +203,7 @@ ifDelivered v portal a moved kept Decision.DenyOperation = kept
 abbrev pub requestTests : View → List ℕ → Request → ℕ → List Condition
 requestTests v memory q requested =
     record { passed = eqb (length memory) (v .size); refusal = Refusal.BadMemory }
-    ∷ record { passed = noneBad (badRequestArgument q requested); refusal = Refusal.ArgInvalid }
+    ∷ goodArguments (badRequestArgument q requested)
     ∷ []
 
 -- a request that is not refused: the bytes that a delivery moves, and the buffer as it was lent

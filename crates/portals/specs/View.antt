@@ -115,8 +115,8 @@ zeroEvent = record {
   user = 0;
 }
 
-abbrev pub zeroCounters : List Counter
-zeroCounters = replicate COUNTERS (record { success = 0; failure = 0 })
+abbrev pub zeroCounter : Counter
+zeroCounter = record { success = 0; failure = 0 }
 
 abbrev pub zeroRegisters : Registers
 zeroRegisters = record { dropped = 0; permission = 0; operation = 0 }
@@ -128,19 +128,22 @@ newTarget size = record {
   entries = record { slots = replicate SLOTS zeroEntry; count = 0 };
   unexpected = record { slots = replicate HEADERS zeroHeader; count = 0 };
   queue = record { slots = replicate EVENTS zeroEvent; head = 0; count = 0; lost = 0 };
-  counters = record { slots = zeroCounters };
+  counters = record { slots = replicate COUNTERS zeroCounter };
   registers = zeroRegisters;
 }
 
 -- what it holds
+abbrev pub emptyQueue : EventQueue
+emptyQueue = record { events = []; lost = 0 }
+
 abbrev pub emptyView : ℕ → View
 emptyView size = record {
   size = size;
   last = 0;
   entries = [];
   headers = [];
-  queue = record { events = []; lost = 0 };
-  counters = zeroCounters;
+  queue = emptyQueue;
+  counters = replicate COUNTERS zeroCounter;
   registers = zeroRegisters;
 }
 
