@@ -1,5 +1,9 @@
 pub mod ListLaws
+pub mod SlotLaws
+pub mod RingLaws
+pub mod TurnLaws
 pub mod GuardLaws
+pub mod HandleLaws
 pub mod SoundLaws
 pub mod KeptLaws
 pub mod RequestKept

@@ -1,20 +1,21 @@
 -- Soundness as facts, one for each thing that document 01 asks, and what keeps each of them.
 use mathlib.Core.Path.{_≡_, refl, sym}
-use mathlib.Core.Bool.{true, false, _&&_, not}
+use mathlib.Core.Bool.{Bool, true, false, _&&_, not, and-true}
 use mathlib.Core.List.{List, [], _∷_, _++_}
-use Prim.Native.Nat.{ℕ, zero, suc, _+_, _≤_, _<_}
+use Prim.Native.Nat.{ℕ, zero, suc, _+_, _%_, _≤_, _<_}
 use native.Mathlib.Omega.{arith}
-use borrow.Author.Tests.{not-true, leb-true, le-leb, eqb-false, ne-eqb}
+use borrow.Author.Tests.{not-true, leb-true, le-leb, eqb-false, eq-eqb, ne-eqb}
 use lib.Dec.{eqb, leb}
-use lib.ListN.{length, set, getD}
+use lib.ListN.{length, take, drop, set, getD, length-take}
 use Rattle.matching.specs.Refusals.{noneBad}
 use Rattle.matching.specs.Entry.{badEntryArgument}
 use Rattle.portals.specs.Lists.{every, any}
 use Rattle.portals.specs.Sizes.{MEMORY, SLOTS, HEADERS, EVENTS}
-use Rattle.portals.specs.View.{View}
-use Rattle.portals.specs.Refusals.{sizesKept, hasHandle, distinct, handleGiven, localKept, entrySound, holds, lengthsKept, headerSound, keepsSlot, soundView}
+use Rattle.portals.specs.View.{View, entriesOf, headersOf}
+use Rattle.portals.specs.Refusals.{sizesKept, hasHandle, distinct, handleGiven, localKept, entrySound, waitsIn, holds, lengthsKept, headerSound, keepsSlot, soundView, countsKept, isSound}
 use Rattle.portals.specs.declared.layout.HeldEntry.{HeldEntry}
 use Rattle.portals.specs.declared.layout.Header.{Header}
+use Rattle.portals.specs.declared.layout.Target.{Target}
 use Rattle.portals.proofs.ListLaws.{both, joined, neither, Part, nothing, keeps, leaves, part-none, any-set, none-join}
 
 pub record Sound (v : View) : Type 0 where
@@ -62,6 +63,18 @@ facts-sound v s =
       s .retired,
     )
 
+-- ## The counts
+
+pub counts-facts : (t : Target) → countsKept t ≡ true → (t .entries .count ≤ SLOTS) × (t .unexpected .count ≤ HEADERS) × (t .queue .count ≤ EVENTS)
+counts-facts t e =
+    let a = both _ (leb (t .queue .count) EVENTS) e in
+    let b = both (leb (t .entries .count) SLOTS) (leb (t .unexpected .count) HEADERS) (a .0) in
+    (leb-true _ _ (b .0), leb-true _ _ (b .1), leb-true _ _ (a .1))
+
+-- no more are held than the count says
+taken-fits : {A : Type 0} (n size : ℕ) (l : List A) → n ≤ size → leb (length (take n l)) size ≡ true
+taken-fits n size l h = le-leb (length (take n l)) size (simp length-take (omega arith))
+
 -- ## One entry
 
 pub record EntryFacts (size last : ℕ) (x : HeldEntry) : Type 0 where
@@ -95,6 +108,25 @@ pub header-kept : (entries others : List HeldEntry) (h : Header)
 header-kept entries others h f e =
     let s = both (any (holds h) entries) (lengthsKept h) e in
     joined (any (holds h) others) (lengthsKept h) (f (s .0)) (s .1)
+
+-- a header is sound as its two tests say
+pub header-by : (entries : List HeldEntry) (h : Header) (held kept answer : Bool)
+    → held ≡ any (holds h) entries
+    → kept ≡ lengthsKept h
+    → (held && kept) ≡ answer
+    → headerSound entries h ≡ answer
+header-by entries h held kept answer p q e = rw (← p, ← q) e
+
+-- an entry keeps its slot: it is linked
+pub slot-linked : (headers : List Header) (x : HeldEntry) → x .retired ≡ 0 → keepsSlot headers x ≡ true
+slot-linked headers x e = rw (eq-eqb (x .retired) 0 e)
+
+-- or else a header names it
+pub slot-by : (headers : List Header) (x : HeldEntry) (named : Bool)
+    → (x .retired ≡ 0 → ⊥)
+    → named ≡ any (waitsIn x) headers
+    → keepsSlot headers x ≡ named
+slot-by headers x named n e = rw (ne-eqb (x .retired) 0 n) (sym e)
 
 -- ## Handles stay distinct
 
@@ -131,3 +163,25 @@ handle-new size last h (y ∷ l) e k =
     let s = both (entrySound size last y) (every (entrySound size last) l) e in
     let n : y .handle ≤ last = entry-facts size last y (s .0) .most in
     rw (ne-eqb (y .handle) h (λ p. omega arith)) (handle-new size last h l (s .1) k)
+
+-- ## A state as it is tested
+
+-- its counts are not kept
+pub unsound-counts : (t : Target) → countsKept t ≡ false → isSound t ≡ false
+unfolding isSound
+unsound-counts t e = rw e
+
+-- they are: then so are the lengths, and the rest decides
+pub sound-by : (t : Target) (handles entries headers slots : Bool)
+    → countsKept t ≡ true
+    → handles ≡ distinct (entriesOf (t .entries))
+    → entries ≡ every (entrySound (t .size) (t .last)) (entriesOf (t .entries))
+    → headers ≡ every (headerSound (entriesOf (t .entries))) (headersOf (t .unexpected))
+    → slots ≡ every (keepsSlot (headersOf (t .unexpected))) (entriesOf (t .entries))
+    → (leb (t .size) MEMORY && handles && entries && headers && slots) ≡ isSound t
+unfolding isSound soundView
+sound-by t handles entries headers slots kept a b c d =
+    let k = counts-facts t kept in
+    rw (kept, taken-fits (t .entries .count) SLOTS (t .entries .slots) (k .0))
+    (rw (taken-fits (t .unexpected .count) HEADERS (t .unexpected .slots) (k .1))
+    (rw (taken-fits (t .queue .count) EVENTS (drop (t .queue .head % EVENTS) (t .queue .slots) ++ t .queue .slots) (k .2), and-true, and-true, and-true, a, b, c, d)))

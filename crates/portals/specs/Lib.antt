@@ -2,6 +2,7 @@ pub mod Lists
 pub mod Sizes
 pub mod Kinds
 pub mod View
+pub mod Parts
 pub mod Refusals
 pub mod Answers
 pub mod Outcome

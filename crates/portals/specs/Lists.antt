@@ -63,3 +63,8 @@ module _ {A : Type 0} where
   -- a list in which other elements stand from a place on, as many as there are
   abbrev pub overwritten : List A → ℕ → List A → List A
   overwritten l at s = take at l ++ s ++ drop (at + length s) l
+
+-- the place found, or another number where none was
+abbrev pub placeOr : ℕ → Option ℕ → ℕ
+placeOr other none = other
+placeOr other (some k) = k

@@ -8,7 +8,9 @@ use lib.ListN.{take, replicate}
 use Rattle.portals.specs.Lists.{ringOf}
 use Rattle.portals.specs.Sizes.{SLOTS, HEADERS, EVENTS, COUNTERS}
 use Rattle.portals.specs.declared.layout.HeldEntry.{HeldEntry}
+use Rattle.portals.specs.declared.layout.Entries.{Entries}
 use Rattle.portals.specs.declared.layout.Header.{Header}
+use Rattle.portals.specs.declared.layout.Unexpected.{Unexpected}
 use Rattle.portals.specs.declared.layout.Event.{Event}
 use Rattle.portals.specs.declared.layout.Queue.{Queue}
 use Rattle.portals.specs.declared.layout.Counter.{Counter}
@@ -40,6 +42,12 @@ isLinked x = eqb (x .retired) 0
 abbrev pub isRetired : HeldEntry → Bool
 isRetired x = not (isLinked x)
 
+abbrev pub entriesOf : Entries → List HeldEntry
+entriesOf es = take (es .count) (es .slots)
+
+abbrev pub headersOf : Unexpected → List Header
+headersOf us = take (us .count) (us .slots)
+
 abbrev pub queueOf : Queue → EventQueue
 queueOf q = record { events = ringOf (q .head % EVENTS) (q .count) (q .slots); lost = q .lost }
 
@@ -47,8 +55,8 @@ abbrev pub viewOf : Target → View
 viewOf t = record {
   size = t .size;
   last = t .last;
-  entries = take (t .entries .count) (t .entries .slots);
-  headers = take (t .unexpected .count) (t .unexpected .slots);
+  entries = entriesOf (t .entries);
+  headers = headersOf (t .unexpected);
   queue = queueOf (t .queue);
   counters = t .counters .slots;
   registers = t .registers;

@@ -1,0 +1,248 @@
+// Document 01, "Refusals": whether a state is sound. Every call on a target tests this first.
+//
+// In a state that calls made, one pass over entries and headers is enough: handles ascend, and a header's entry is looked for where
+// the last header's was found. Any other state gets the same answer, if more slowly.
+use crate::layout::Entries;
+use crate::layout::Header;
+use crate::layout::HeldEntry;
+use crate::layout::Target;
+use crate::layout::Unexpected;
+use matching::early_messages;
+use matching::entry;
+use matching::refusals;
+ghost use mathlib.Core.Path.{_≡_};
+ghost use mathlib.Core.Bool.{true};
+ghost use lib.Dec.{ltb};
+ghost use lib.ListN.{drop};
+ghost use Rattle.portals.specs.Lists.{every, any};
+ghost use Rattle.portals.specs.View.{entriesOf, headersOf};
+ghost use Rattle.portals.specs.Refusals.{distinct, entrySound, names, holds, lengthsKept, headerSound, keepsSlot, countsKept, isSound};
+ghost use Rattle.portals.specs.Parts.{EntriesFit, UnexpectedFit, Tested};
+
+// Each handle is above the one before it: so all are distinct.
+fn handles_ascend(es: Entries) -> bool
+    requires { ⌜ EntriesFit es ⌝ }
+    ensures { λ r. ⌜ ((r ≡ true) → (distinct (entriesOf es) ≡ true)) ⌝ }
+{
+    let n = es.count;
+    let mut highest: u32 = 0;
+    let mut i: usize = 0;
+    while i < n {
+        let x = es.slots[i];
+        if x.handle <= highest {
+            return false;
+        }
+        highest = x.handle;
+        i += 1;
+    }
+    true
+}
+
+// No two entries have the same handle: all pairs are compared.
+fn pairs_differ(es: Entries) -> bool
+    requires { ⌜ EntriesFit es ⌝ }
+    ensures { λ r. ⌜ r ≡ distinct (entriesOf es) ⌝ }
+{
+    let n = es.count;
+    let mut i: usize = 0;
+    while i < n {
+        let x = es.slots[i];
+        let mut j = i + 1;
+        while j < n {
+            let y = es.slots[j];
+            if y.handle == x.handle {
+                return false;
+            }
+            j += 1;
+        }
+        i += 1;
+    }
+    true
+}
+
+// No two entries have the same handle. Pairs are compared only where the handles do not ascend.
+fn handles_distinct(es: Entries) -> bool
+    requires { ⌜ EntriesFit es ⌝ }
+    ensures { λ r. ⌜ r ≡ distinct (entriesOf es) ⌝ }
+{
+    if handles_ascend(es) {
+        return true;
+    }
+    pairs_differ(es)
+}
+
+// One entry, linked or retired: its handle was given, it passes append's tests, and its local offset is one that it can have.
+fn entry_sound(x: HeldEntry, size: u32, last: u32) -> bool
+    ensures { λ r. ⌜ r ≡ entrySound size last x ⌝ }
+{
+    let e = x.entry;
+    let given = (1 <= x.handle) & (x.handle <= last);
+    let bad = entry::bad_entry_argument(e, size);
+    let good = refusals::none_bad(bad);
+    let managed = entry::is_set(e.options, entry::MANAGE_LOCAL);
+    given & good & ((x.local <= e.length) & (managed | (x.local == 0)))
+}
+
+// Every entry alone.
+fn entries_sound(es: Entries, size: u32, last: u32) -> bool
+    requires { ⌜ EntriesFit es ⌝ }
+    ensures { λ r. ⌜ r ≡ every (entrySound size last) (entriesOf es) ⌝ }
+{
+    let n = es.count;
+    let mut i: usize = 0;
+    while i < n {
+        let x = es.slots[i];
+        if !entry_sound(x, size, last) {
+            return false;
+        }
+        i += 1;
+    }
+    true
+}
+
+// The message of a header waits in this entry: an overflow entry of its portal that takes headers and has its bytes in its region.
+fn is_holder(x: HeldEntry, h: Header) -> bool
+    ensures { λ r. ⌜ r ≡ holds h x ⌝ }
+{
+    if h.handle != x.handle {
+        return false;
+    }
+    let e = x.entry;
+    let takes = early_messages::takes_headers(e);
+    let end = entry::exact_sum(h.place, h.accepted);
+    let bound = entry::exact_sum(e.start, e.length);
+    (e.portal == h.portal) & takes & ((e.start <= h.place) & (end <= bound))
+}
+
+// The place of the first entry from a place on that holds the header, or the count.
+fn holder_from(es: Entries, h: Header, from: usize) -> usize
+    requires { ⌜ EntriesFit es ⌝ }
+    ensures { λ r. ⌜ ltb r (es .count) ≡ any (holds h) (drop from (entriesOf es)) ⌝ }
+{
+    let n = es.count;
+    let mut i = from;
+    while i < n {
+        let x = es.slots[i];
+        if is_holder(x, h) {
+            return i;
+        }
+        i += 1;
+    }
+    n
+}
+
+// The place of an entry that holds the header, or the count: looked for from a place on, and if none is there, from the front.
+fn holder_near(es: Entries, h: Header, from: usize) -> usize
+    requires { ⌜ EntriesFit es ⌝ }
+    ensures { λ r. ⌜ ltb r (es .count) ≡ any (holds h) (entriesOf es) ⌝ }
+{
+    let place = holder_from(es, h, from);
+    if place < es.count {
+        return place;
+    }
+    holder_from(es, h, 0)
+}
+
+// A header's accepted length is at most the requested one, and that at most a whole memory.
+fn lengths_kept(h: Header) -> bool
+    ensures { λ r. ⌜ r ≡ lengthsKept h ⌝ }
+{
+    (h.accepted <= h.requested) & (h.requested <= 65536)
+}
+
+// Every header: some entry holds it. The search begins where the last header's entry was found.
+fn headers_sound(es: Entries, us: Unexpected) -> bool
+    requires { ⌜ EntriesFit es ⌝ }
+    requires { ⌜ UnexpectedFit us ⌝ }
+    ensures { λ r. ⌜ r ≡ every (headerSound (entriesOf es)) (headersOf us) ⌝ }
+{
+    let n = us.count;
+    let mut at: usize = 0;
+    let mut i: usize = 0;
+    while i < n {
+        let h = us.slots[i];
+        at = holder_near(es, h, at);
+        let held = at < es.count;
+        let kept = lengths_kept(h);
+        if !(held & kept) {
+            return false;
+        }
+        i += 1;
+    }
+    true
+}
+
+// The place of the first header from a place on that names the handle, or the count.
+fn naming_from(us: Unexpected, handle: u32, from: usize) -> usize
+    requires { ⌜ UnexpectedFit us ⌝ }
+    ensures { λ r. ⌜ ltb r (us .count) ≡ any (names handle) (drop from (headersOf us)) ⌝ }
+{
+    let n = us.count;
+    let mut i = from;
+    while i < n {
+        let h = us.slots[i];
+        if h.handle == handle {
+            return i;
+        }
+        i += 1;
+    }
+    n
+}
+
+// The place of a header that names the handle, or the count: looked for from a place on, and if none is there, from the front.
+fn naming_near(us: Unexpected, handle: u32, from: usize) -> usize
+    requires { ⌜ UnexpectedFit us ⌝ }
+    ensures { λ r. ⌜ ltb r (us .count) ≡ any (names handle) (headersOf us) ⌝ }
+{
+    let place = naming_from(us, handle, from);
+    if place < us.count {
+        return place;
+    }
+    naming_from(us, handle, 0)
+}
+
+// Every retired entry has a message waiting. The search begins where the last one's was found.
+fn slots_kept(es: Entries, us: Unexpected) -> bool
+    requires { ⌜ EntriesFit es ⌝ }
+    requires { ⌜ UnexpectedFit us ⌝ }
+    ensures { λ r. ⌜ r ≡ every (keepsSlot (headersOf us)) (entriesOf es) ⌝ }
+{
+    let n = es.count;
+    let mut at: usize = 0;
+    let mut i: usize = 0;
+    while i < n {
+        let x = es.slots[i];
+        i += 1;
+        if x.retired == 0 {
+            continue;
+        }
+        at = naming_near(us, x.handle, at);
+        if us.count <= at {
+            return false;
+        }
+    }
+    true
+}
+
+// The counts are within the sizes.
+fn counts_kept(t: Target) -> bool
+    ensures { λ r. ⌜ Tested countsKept t r ⌝ }
+{
+    (t.entries.count <= 64) & (t.unexpected.count <= 32) & (t.queue.count <= 64)
+}
+
+// The state is sound.
+pub fn sound(t: Target) -> bool
+    ensures { λ r. ⌜ Tested isSound t r ⌝ }
+{
+    if !counts_kept(t) {
+        return false;
+    }
+    let es = t.entries;
+    let us = t.unexpected;
+    let distinct = handles_distinct(es);
+    let entries = entries_sound(es, t.size, t.last);
+    let headers = headers_sound(es, us);
+    let slots = slots_kept(es, us);
+    (t.size <= 65536) & distinct & entries & headers & slots
+}
