@@ -1,12 +1,12 @@
 -- Laws of an array of slots of which the first are in use, for any elements and any size.
 use mathlib.Core.Path.{_≡_, refl, ap, sym, _∙_}
 use mathlib.Core.Bool.{Bool, true, false}
-use mathlib.Core.List.{List, [], _∷_, _++_, map}
+use mathlib.Core.List.{List, [], _∷_, _++_}
 use mathlib.Core.Option.{none, some}
 use Prim.Native.Nat.{ℕ, zero, suc, _+_, _-_, _≤_, _<_}
 use native.Mathlib.Omega.{arith}
 use native.Mathlib.Numerals.{add-one}
-use lib.ListN.{length, take, drop, getD, set, length-set, length-map, drop-of-length-le}
+use lib.ListN.{length, take, drop, getD, set, length-set, drop-of-length-le}
 use lib.Seq.{take-suc-set, take-set-lt, take-nil, drop-cons, length-take-le, getD-take}
 use Rattle.portals.specs.Lists.{firstFrom, removeAt}
 use Rattle.portals.specs.Parts.{Fits, Holds}
@@ -17,10 +17,6 @@ in-use {A} {size} {n} {s} f =
     let room : n ≤ size = f .room in
     let long : length s ≡ size = f .long in
     length-take-le n s (omega arith)
-
--- how long an array of structs is, by what a function knows of one that it was handed
-pub slots-long : (X Y : Type 0) (f : X → Y) (l : List X) (n : ℕ) → length (map f l) ≡ n → length l ≡ n
-slots-long X Y f l n e = sym (length-map l f) ∙ e
 
 -- ## Storing
 

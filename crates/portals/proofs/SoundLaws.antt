@@ -1,6 +1,6 @@
 -- Soundness as facts, one for each thing that document 01 asks, and what keeps each of them.
 use mathlib.Core.Path.{_≡_, refl, sym}
-use mathlib.Core.Bool.{Bool, true, false, _&&_, not, and-true}
+use mathlib.Core.Bool.{Bool, true, false, _&&_, not, and-true, and-false}
 use mathlib.Core.List.{List, [], _∷_, _++_}
 use Prim.Native.Nat.{ℕ, zero, suc, _+_, _%_, _≤_, _<_}
 use native.Mathlib.Omega.{arith}
@@ -109,24 +109,23 @@ header-kept entries others h f e =
     let s = both (any (holds h) entries) (lengthsKept h) e in
     joined (any (holds h) others) (lengthsKept h) (f (s .0)) (s .1)
 
--- a header is sound as its two tests say
-pub header-by : (entries : List HeldEntry) (h : Header) (held kept answer : Bool)
-    → held ≡ any (holds h) entries
-    → kept ≡ lengthsKept h
-    → (held && kept) ≡ answer
-    → headerSound entries h ≡ answer
-header-by entries h held kept answer p q e = rw (← p, ← q) e
+-- its lengths are kept: then it is up to the entries
+pub header-by : (entries : List HeldEntry) (h : Header) → lengthsKept h ≡ true → headerSound entries h ≡ any (holds h) entries
+header-by entries h e = rw e (and-true (any (holds h) entries))
 
--- an entry keeps its slot: it is linked
+-- they are not
+pub header-off : (entries : List HeldEntry) (h : Header) → lengthsKept h ≡ false → headerSound entries h ≡ false
+header-off entries h e = rw e (and-false (any (holds h) entries))
+
+-- ## The slot of one entry
+
+-- it is linked
 pub slot-linked : (headers : List Header) (x : HeldEntry) → x .retired ≡ 0 → keepsSlot headers x ≡ true
 slot-linked headers x e = rw (eq-eqb (x .retired) 0 e)
 
--- or else a header names it
-pub slot-by : (headers : List Header) (x : HeldEntry) (named : Bool)
-    → (x .retired ≡ 0 → ⊥)
-    → named ≡ any (waitsIn x) headers
-    → keepsSlot headers x ≡ named
-slot-by headers x named n e = rw (ne-eqb (x .retired) 0 n) (sym e)
+-- it is retired: then it is up to the headers
+pub slot-by : (headers : List Header) (x : HeldEntry) → (x .retired ≡ 0 → ⊥) → keepsSlot headers x ≡ any (waitsIn x) headers
+slot-by headers x n = rw (ne-eqb (x .retired) 0 n)
 
 -- ## Handles stay distinct
 

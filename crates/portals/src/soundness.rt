@@ -11,12 +11,12 @@ use matching::early_messages;
 use matching::entry;
 use matching::refusals;
 ghost use mathlib.Core.Path.{_≡_};
-ghost use mathlib.Core.Bool.{true};
-ghost use lib.Dec.{ltb};
-ghost use lib.ListN.{drop};
-ghost use Rattle.portals.specs.Lists.{every, any};
+ghost use mathlib.Core.Bool.{true, cond};
+ghost use Prim.Native.Nat.{_+_, _<_};
+ghost use lib.Dec.{eqb};
+ghost use Rattle.portals.specs.Lists.{every};
 ghost use Rattle.portals.specs.View.{entriesOf, headersOf};
-ghost use Rattle.portals.specs.Refusals.{distinct, entrySound, names, holds, lengthsKept, headerSound, keepsSlot, countsKept, isSound};
+ghost use Rattle.portals.specs.Refusals.{distinct, entrySound, holds, lengthsKept, headerSound, keepsSlot, countsKept, isSound};
 ghost use Rattle.portals.specs.Parts.{EntriesFit, UnexpectedFit, Tested};
 
 // Each handle is above the one before it: so all are distinct.
@@ -114,35 +114,6 @@ fn is_holder(x: HeldEntry, h: Header) -> bool
     (e.portal == h.portal) & takes & ((e.start <= h.place) & (end <= bound))
 }
 
-// The place of the first entry from a place on that holds the header, or the count.
-fn holder_from(es: Entries, h: Header, from: usize) -> usize
-    requires { ⌜ EntriesFit es ⌝ }
-    ensures { λ r. ⌜ ltb r (es .count) ≡ any (holds h) (drop from (entriesOf es)) ⌝ }
-{
-    let n = es.count;
-    let mut i = from;
-    while i < n {
-        let x = es.slots[i];
-        if is_holder(x, h) {
-            return i;
-        }
-        i += 1;
-    }
-    n
-}
-
-// The place of an entry that holds the header, or the count: looked for from a place on, and if none is there, from the front.
-fn holder_near(es: Entries, h: Header, from: usize) -> usize
-    requires { ⌜ EntriesFit es ⌝ }
-    ensures { λ r. ⌜ ltb r (es .count) ≡ any (holds h) (entriesOf es) ⌝ }
-{
-    let place = holder_from(es, h, from);
-    if place < es.count {
-        return place;
-    }
-    holder_from(es, h, 0)
-}
-
 // A header's accepted length is at most the requested one, and that at most a whole memory.
 fn lengths_kept(h: Header) -> bool
     ensures { λ r. ⌜ r ≡ lengthsKept h ⌝ }
@@ -150,76 +121,68 @@ fn lengths_kept(h: Header) -> bool
     (h.accepted <= h.requested) & (h.requested <= 65536)
 }
 
-// Every header: some entry holds it. The search begins where the last header's entry was found.
+// The place after one of `count` places: the first after the last.
+fn next_place(k: usize, count: usize) -> usize
+    requires { ⌜ k < count ⌝ }
+    ensures { λ r. ⌜ r ≡ cond (eqb (k + 1) count) 0 (k + 1) ⌝ }
+{
+    let next = k + 1;
+    if next == count { 0 } else { next }
+}
+
+// Every header: its lengths are kept, and some entry holds it. The search begins where the last header's entry was found, and goes
+// around.
 fn headers_sound(es: Entries, us: Unexpected) -> bool
     requires { ⌜ EntriesFit es ⌝ }
     requires { ⌜ UnexpectedFit us ⌝ }
     ensures { λ r. ⌜ r ≡ every (headerSound (entriesOf es)) (headersOf us) ⌝ }
 {
-    let n = us.count;
-    let mut at: usize = 0;
     let mut i: usize = 0;
-    while i < n {
+    let mut k: usize = 0;
+    'headers: while i < us.count {
         let h = us.slots[i];
-        at = holder_near(es, h, at);
-        let held = at < es.count;
-        let kept = lengths_kept(h);
-        if !(held & kept) {
+        if !lengths_kept(h) {
             return false;
         }
         i += 1;
+        let mut left = es.count;
+        while 0 < left {
+            let x = es.slots[k];
+            if is_holder(x, h) {
+                continue 'headers;
+            }
+            k = next_place(k, es.count);
+            left -= 1;
+        }
+        return false;
     }
     true
 }
 
-// The place of the first header from a place on that names the handle, or the count.
-fn naming_from(us: Unexpected, handle: u32, from: usize) -> usize
-    requires { ⌜ UnexpectedFit us ⌝ }
-    ensures { λ r. ⌜ ltb r (us .count) ≡ any (names handle) (drop from (headersOf us)) ⌝ }
-{
-    let n = us.count;
-    let mut i = from;
-    while i < n {
-        let h = us.slots[i];
-        if h.handle == handle {
-            return i;
-        }
-        i += 1;
-    }
-    n
-}
-
-// The place of a header that names the handle, or the count: looked for from a place on, and if none is there, from the front.
-fn naming_near(us: Unexpected, handle: u32, from: usize) -> usize
-    requires { ⌜ UnexpectedFit us ⌝ }
-    ensures { λ r. ⌜ ltb r (us .count) ≡ any (names handle) (headersOf us) ⌝ }
-{
-    let place = naming_from(us, handle, from);
-    if place < us.count {
-        return place;
-    }
-    naming_from(us, handle, 0)
-}
-
-// Every retired entry has a message waiting. The search begins where the last one's was found.
+// Every retired entry has a message waiting. The search begins where the last one's was found, and goes around.
 fn slots_kept(es: Entries, us: Unexpected) -> bool
     requires { ⌜ EntriesFit es ⌝ }
     requires { ⌜ UnexpectedFit us ⌝ }
     ensures { λ r. ⌜ r ≡ every (keepsSlot (headersOf us)) (entriesOf es) ⌝ }
 {
-    let n = es.count;
-    let mut at: usize = 0;
     let mut i: usize = 0;
-    while i < n {
+    let mut k: usize = 0;
+    'entries: while i < es.count {
         let x = es.slots[i];
         i += 1;
         if x.retired == 0 {
-            continue;
+            continue 'entries;
         }
-        at = naming_near(us, x.handle, at);
-        if us.count <= at {
-            return false;
+        let mut left = us.count;
+        while 0 < left {
+            let h = us.slots[k];
+            if h.handle == x.handle {
+                continue 'entries;
+            }
+            k = next_place(k, us.count);
+            left -= 1;
         }
+        return false;
     }
     true
 }
