@@ -1,6 +1,6 @@
 -- Handles that ascend are distinct; and the turns of the loops that look at them.
 use mathlib.Core.Path.{_≡_, refl, sym, _∙_}
-use mathlib.Core.Bool.{Bool, true, false, _&&_, not}
+use mathlib.Core.Bool.{Bool, true, false, _&&_, not, and-true, and-assoc}
 use mathlib.Core.List.{List, [], _∷_}
 use Prim.Native.Nat.{ℕ, _+_, _≤_, _<_}
 use native.Mathlib.Omega.{arith}
@@ -38,12 +38,19 @@ ascend-distinct n (x ∷ l) e =
 -- ## Turns
 
 module _ (es : Entries) (fits : EntriesFit es) where
-  pub ascend-on : (n i : ℕ) (d : HeldEntry) → i < es .count → ltb n (getD (es .slots) i d .handle) ≡ true
-      → ascend n (drop i (entriesOf es)) ≡ ascend (getD (es .slots) i d .handle) (drop (i + 1) (entriesOf es))
-  ascend-on n i d h e = rw (left (es .slots) (es .count) fits i d h, e)
+  -- so far, and those from i on: entry i goes over
+  pub ascend-more : (all so-far : Bool) (n i : ℕ) (d : HeldEntry)
+      → i < es .count
+      → all ≡ (so-far && ascend n (drop i (entriesOf es)))
+      → all ≡ ((so-far && ltb n (getD (es .slots) i d .handle)) && ascend (getD (es .slots) i d .handle) (drop (i + 1) (entriesOf es)))
+  ascend-more all so-far n i d h f =
+      f
+      ∙ rw (left (es .slots) (es .count) fits i d h)
+      (sym (and-assoc so-far (ltb n (getD (es .slots) i d .handle)) (ascend (getD (es .slots) i d .handle) (drop (i + 1) (entriesOf es)))))
 
-  pub ascend-end : (n i : ℕ) → es .count ≤ i → ascend n (drop i (entriesOf es)) ≡ true
-  ascend-end n i h = rw (none-left (es .slots) (es .count) fits i h)
+  -- none is left
+  pub ascend-told : (all so-far : Bool) (n i : ℕ) → es .count ≤ i → all ≡ (so-far && ascend n (drop i (entriesOf es))) → so-far ≡ all
+  ascend-told all so-far n i h f = sym (f ∙ rw (none-left (es .slots) (es .count) fits i h) (and-true so-far))
 
   -- an entry's own handle against those after it, and then these
   pub distinct-on : (i : ℕ) (d : HeldEntry) → i < es .count

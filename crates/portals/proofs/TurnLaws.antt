@@ -1,6 +1,6 @@
 -- A turn of a loop over the slots in use of an array, as an equation of what is left: for any elements.
-use mathlib.Core.Path.{_≡_, _∙_}
-use mathlib.Core.Bool.{Bool, true, false, _&&_}
+use mathlib.Core.Path.{_≡_, sym, _∙_}
+use mathlib.Core.Bool.{Bool, true, false, _&&_, and-true, and-assoc}
 use mathlib.Core.List.{List, [], _∷_}
 use Prim.Native.Nat.{ℕ, _+_, _≤_, _<_}
 use native.Mathlib.Omega.{arith}
@@ -38,3 +38,16 @@ module _ {A : Type 0} {size : ℕ} (slots : List A) (count : ℕ) (fits : Fits s
     -- none is left
     pub every-end : count ≤ i → every p (drop i (take count slots)) ≡ true
     every-end h = rw (none-left i h)
+
+    -- so far, and those from i on: slot i goes over
+    pub every-more : (all so-far passes : Bool) (d : A)
+        → i < count
+        → passes ≡ p (getD slots i d)
+        → all ≡ (so-far && every p (drop i (take count slots)))
+        → all ≡ ((so-far && passes) && every p (drop (i + 1) (take count slots)))
+    every-more all so-far passes d h e f =
+        f ∙ rw (every-turn d h, e) (sym (and-assoc so-far (p (getD slots i d)) (every p (drop (i + 1) (take count slots)))))
+
+    -- none is left
+    pub every-told : (all so-far : Bool) → count ≤ i → all ≡ (so-far && every p (drop i (take count slots))) → so-far ≡ all
+    every-told all so-far h f = sym (f ∙ rw (every-end h) (and-true so-far))

@@ -2,8 +2,8 @@ pub mod Lists
 pub mod Sizes
 pub mod Kinds
 pub mod View
-pub mod Parts
 pub mod Refusals
+pub mod Parts
 pub mod Answers
 pub mod Outcome
 pub mod Making

@@ -6,13 +6,16 @@ use mathlib.Core.List.{List}
 use Prim.Native.Nat.{ℕ, _≤_}
 use lib.ListN.{length, take}
 use Rattle.portals.specs.Sizes.{SLOTS, HEADERS, EVENTS, COUNTERS}
-use Rattle.portals.specs.View.{EventQueue, queueOf}
+use Rattle.portals.specs.Lists.{every}
+use Rattle.portals.specs.View.{EventQueue, isLinked, queueOf}
+use Rattle.portals.specs.Refusals.{distinct, entrySound}
 use Rattle.portals.specs.declared.layout.HeldEntry.{HeldEntry}
 use Rattle.portals.specs.declared.layout.Entries.{Entries}
 use Rattle.portals.specs.declared.layout.Header.{Header}
 use Rattle.portals.specs.declared.layout.Unexpected.{Unexpected}
 use Rattle.portals.specs.declared.layout.Queue.{Queue}
 use Rattle.portals.specs.declared.layout.Target.{Target}
+use Rattle.portals.specs.declared.soundness.EntriesSeen.{EntriesSeen}
 
 -- an array of `size` slots of which the count is in use
 pub record Fits {A : Type 0} (size : ℕ) (slots : List A) (count : ℕ) : Type 0 where
@@ -54,3 +57,9 @@ pub record TargetFits (t : Target) : Type 0 where
 pub record Tested (test : Target → Bool) (t : Target) (passed : Bool) : Type 0 where
   pub answer : passed ≡ test t
   pub fits : passed ≡ true → TargetFits t
+
+-- what one pass over the entries of a target tells of them
+pub record SeenIn (entries : List HeldEntry) (size last : ℕ) (seen : EntriesSeen) : Type 0 where
+  pub sound : seen .sound ≡ every (entrySound size last) entries
+  pub ascend : seen .ascend ≡ true → distinct entries ≡ true
+  pub linked : seen .linked ≡ every isLinked entries

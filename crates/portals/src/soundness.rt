@@ -1,7 +1,8 @@
 // Document 01, "Refusals": whether a state is sound. Every call on a target tests this first.
 //
-// In a state that calls made, one pass over entries and headers is enough: handles ascend, and a header's entry is looked for where
-// the last header's was found. Any other state gets the same answer, if more slowly.
+// In a state that calls made, one pass over the entries shows that their handles are distinct, since they ascend; a header's entry is
+// looked for where the last header's was found; and what waits nowhere is not looked for. Any other state gets the same answer, if
+// more slowly. A part is handed to a function by value only where that runs a loop over it: each time it is copied once.
 use crate::layout::Entries;
 use crate::layout::Header;
 use crate::layout::HeldEntry;
@@ -11,31 +12,22 @@ use matching::early_messages;
 use matching::entry;
 use matching::refusals;
 ghost use mathlib.Core.Path.{_≡_};
-ghost use mathlib.Core.Bool.{true, cond};
+ghost use mathlib.Core.Bool.{cond};
 ghost use Prim.Native.Nat.{_+_, _<_};
 ghost use lib.Dec.{eqb};
 ghost use Rattle.portals.specs.Lists.{every};
 ghost use Rattle.portals.specs.View.{entriesOf, headersOf};
 ghost use Rattle.portals.specs.Refusals.{distinct, entrySound, holds, lengthsKept, headerSound, keepsSlot, countsKept, isSound};
-ghost use Rattle.portals.specs.Parts.{EntriesFit, UnexpectedFit, Tested};
+ghost use Rattle.portals.specs.Parts.{EntriesFit, UnexpectedFit, TargetFits, SeenIn, Tested};
 
-// Each handle is above the one before it: so all are distinct.
-fn handles_ascend(es: Entries) -> bool
-    requires { ⌜ EntriesFit es ⌝ }
-    ensures { λ r. ⌜ ((r ≡ true) → (distinct (entriesOf es) ≡ true)) ⌝ }
-{
-    let n = es.count;
-    let mut highest: u32 = 0;
-    let mut i: usize = 0;
-    while i < n {
-        let x = es.slots[i];
-        if x.handle <= highest {
-            return false;
-        }
-        highest = x.handle;
-        i += 1;
-    }
-    true
+// What one pass over the entries tells.
+pub struct EntriesSeen {
+    // Each alone is sound.
+    pub sound: bool,
+    // Each handle is above the one before it.
+    pub ascend: bool,
+    // None is retired.
+    pub linked: bool,
 }
 
 // No two entries have the same handle: all pairs are compared.
@@ -60,17 +52,6 @@ fn pairs_differ(es: Entries) -> bool
     true
 }
 
-// No two entries have the same handle. Pairs are compared only where the handles do not ascend.
-fn handles_distinct(es: Entries) -> bool
-    requires { ⌜ EntriesFit es ⌝ }
-    ensures { λ r. ⌜ r ≡ distinct (entriesOf es) ⌝ }
-{
-    if handles_ascend(es) {
-        return true;
-    }
-    pairs_differ(es)
-}
-
 // One entry, linked or retired: its handle was given, it passes append's tests, and its local offset is one that it can have.
 fn entry_sound(x: HeldEntry, size: u32, last: u32) -> bool
     ensures { λ r. ⌜ r ≡ entrySound size last x ⌝ }
@@ -83,21 +64,29 @@ fn entry_sound(x: HeldEntry, size: u32, last: u32) -> bool
     given & good & ((x.local <= e.length) & (managed | (x.local == 0)))
 }
 
-// Every entry alone.
-fn entries_sound(es: Entries, size: u32, last: u32) -> bool
+// One pass over the entries.
+fn entries_seen(es: Entries, size: u32, last: u32) -> EntriesSeen
     requires { ⌜ EntriesFit es ⌝ }
-    ensures { λ r. ⌜ r ≡ every (entrySound size last) (entriesOf es) ⌝ }
+    ensures { λ r. ⌜ SeenIn (entriesOf es) size last r ⌝ }
 {
-    let n = es.count;
+    let mut sound = true;
+    let mut ascend = true;
+    let mut linked = true;
+    let mut highest: u32 = 0;
     let mut i: usize = 0;
-    while i < n {
+    while i < es.count {
         let x = es.slots[i];
-        if !entry_sound(x, size, last) {
-            return false;
-        }
+        sound = sound & entry_sound(x, size, last);
+        ascend = ascend & (highest < x.handle);
+        linked = linked & (x.retired == 0);
+        highest = x.handle;
         i += 1;
     }
-    true
+    EntriesSeen {
+        sound,
+        ascend,
+        linked,
+    }
 }
 
 // The message of a header waits in this entry: an overflow entry of its portal that takes headers and has its bytes in its region.
@@ -132,7 +121,7 @@ fn next_place(k: usize, count: usize) -> usize
 
 // Every header: its lengths are kept, and some entry holds it. The search begins where the last header's entry was found, and goes
 // around.
-fn headers_sound(es: Entries, us: Unexpected) -> bool
+fn headers_held(es: Entries, us: Unexpected) -> bool
     requires { ⌜ EntriesFit es ⌝ }
     requires { ⌜ UnexpectedFit us ⌝ }
     ensures { λ r. ⌜ r ≡ every (headerSound (entriesOf es)) (headersOf us) ⌝ }
@@ -160,7 +149,7 @@ fn headers_sound(es: Entries, us: Unexpected) -> bool
 }
 
 // Every retired entry has a message waiting. The search begins where the last one's was found, and goes around.
-fn slots_kept(es: Entries, us: Unexpected) -> bool
+fn slots_waited(es: Entries, us: Unexpected) -> bool
     requires { ⌜ EntriesFit es ⌝ }
     requires { ⌜ UnexpectedFit us ⌝ }
     ensures { λ r. ⌜ r ≡ every (keepsSlot (headersOf us)) (entriesOf es) ⌝ }
@@ -194,6 +183,46 @@ fn counts_kept(t: Target) -> bool
     (t.entries.count <= 64) & (t.unexpected.count <= 32) & (t.queue.count <= 64)
 }
 
+// No two entries have the same handle. Pairs are compared only where the handles do not ascend.
+fn handles_distinct(t: Target, seen: EntriesSeen) -> bool
+    requires { ⌜ TargetFits t ⌝ }
+    requires { ⌜ SeenIn (entriesOf (t .entries)) (t .size) (t .last) seen ⌝ }
+    ensures { λ r. ⌜ r ≡ distinct (entriesOf (t .entries)) ⌝ }
+{
+    if seen.ascend {
+        return true;
+    }
+    let es = t.entries;
+    pairs_differ(es)
+}
+
+// Every header is sound. Nothing is looked for where none waits.
+fn headers_sound(t: Target) -> bool
+    requires { ⌜ TargetFits t ⌝ }
+    ensures { λ r. ⌜ r ≡ every (headerSound (entriesOf (t .entries))) (headersOf (t .unexpected)) ⌝ }
+{
+    if t.unexpected.count == 0 {
+        return true;
+    }
+    let es = t.entries;
+    let us = t.unexpected;
+    headers_held(es, us)
+}
+
+// Every entry keeps its slot. Nothing is looked for where none is retired.
+fn slots_kept(t: Target, seen: EntriesSeen) -> bool
+    requires { ⌜ TargetFits t ⌝ }
+    requires { ⌜ SeenIn (entriesOf (t .entries)) (t .size) (t .last) seen ⌝ }
+    ensures { λ r. ⌜ r ≡ every (keepsSlot (headersOf (t .unexpected))) (entriesOf (t .entries)) ⌝ }
+{
+    if seen.linked {
+        return true;
+    }
+    let es = t.entries;
+    let us = t.unexpected;
+    slots_waited(es, us)
+}
+
 // The state is sound.
 pub fn sound(t: Target) -> bool
     ensures { λ r. ⌜ Tested isSound t r ⌝ }
@@ -202,10 +231,9 @@ pub fn sound(t: Target) -> bool
         return false;
     }
     let es = t.entries;
-    let us = t.unexpected;
-    let distinct = handles_distinct(es);
-    let entries = entries_sound(es, t.size, t.last);
-    let headers = headers_sound(es, us);
-    let slots = slots_kept(es, us);
-    (t.size <= 65536) & distinct & entries & headers & slots
+    let seen = entries_seen(es, t.size, t.last);
+    let distinct = handles_distinct(t, seen);
+    let headers = headers_sound(t);
+    let slots = slots_kept(t, seen);
+    (t.size <= 65536) & distinct & seen.sound & headers & slots
 }

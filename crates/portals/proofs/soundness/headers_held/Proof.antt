@@ -13,8 +13,8 @@ use Rattle.portals.specs.Refusals.{holds, headerSound}
 use Rattle.portals.proofs.TurnLaws.{every-turn, every-off, every-end}
 use Rattle.portals.proofs.AroundLaws.{Around, around, around-more, around-found, around-none}
 use Rattle.portals.proofs.SoundLaws.{header-by, header-off}
-use Rattle.portals.proofs.soundness.headers_sound.Statement.{statement}
-use Rattle.portals.proofs.soundness.headers_sound.Tie as tie
+use Rattle.portals.proofs.soundness.headers_held.Statement.{statement}
+use Rattle.portals.proofs.soundness.headers_held.Tie as tie
 
 abbrev Inv-loop : tie.InvT-loop
 Inv-loop es us i k₀ h left₀ k left =
@@ -109,8 +109,8 @@ returns-3 c =
     let a = o .before .args in
     sym (o .headers .inv .1 ∙ every-end (a .t2 .slots) (a .t2 .count) (o .before .pre .1) (headerSound (entriesOf (a .t1))) (o .headers .i) (search needs))
 
-pub headers-sound-spec : {M : Type 1} → statement M
-headers-sound-spec =
+pub headers-held-spec : {M : Type 1} → statement M
+headers-held-spec =
     tie.close
     (tie.spec
     Inv-loop
