@@ -36,7 +36,7 @@ module _ {A : Type 0} (p : A → Bool) where
   any-around k l h =
       let n : length l ≡ length (drop k l) + k = rw (length-drop k l) (omega arith) in
       let around : ringOf k (length l) l ≡ drop k l ++ take k l =
-          ap (λ (m : ℕ). take m (drop k l ++ l)) n ∙ take-append-add (drop k l) l k in
+      ap (λ (m : ℕ). take m (drop k l ++ l)) n ∙ take-append-add (drop k l) l k in
       rw (around, any-append (drop k l) (take k l))
       (or-comm (any p (drop k l)) (any p (take k l))
       ∙ sym (any-append (take k l) (drop k l))
@@ -55,7 +55,7 @@ module _ {A : Type 0} (p : A → Bool) where
     around f h =
         let n : length (take count slots) ≡ count = in-use f in
         let e : any p (ringOf k (length (take count slots)) (take count slots)) ≡ any p (take count slots) =
-            any-around k (take count slots) (omega arith) in
+        any-around k (take count slots) (omega arith) in
         record {
           fits = f;
           place = h;
@@ -74,8 +74,8 @@ module _ {A : Type 0} (p : A → Bool) where
         let most : left ≤ count = a .most in
         let more : left ≡ suc (left - 1) = omega arith in
         let e : ringOf k left (take count slots) ≡ getD (take count slots) k d ∷ ringOf (after k count) (left - 1) (take count slots) =
-            ap (λ (m : ℕ). ringOf k m (take count slots)) more
-            ∙ pop (take count slots) k (left - 1) (after k count) d (omega arith) (omega arith) (rw n (after-cases k count (omega arith))) in
+        ap (λ (m : ℕ). ringOf k m (take count slots)) more
+        ∙ pop (take count slots) k (left - 1) (after k count) d (omega arith) (omega arith) (rw n (after-cases k count (omega arith))) in
         a .rest ∙ ap (any p) e ∙ rw (getD-take count slots k d (omega arith))
 
     -- the one there does not pass

@@ -6,7 +6,7 @@ use Prim.Native.Nat.{ℕ, _≤_, _<_}
 use native.Mathlib.Omega.{arith}
 use borrow.Author.Tests.{leb-true, ltb-true}
 use lib.Dec.{leb, ltb, eqb}
-use lib.ListN.{length}
+use lib.ListN.{length, length-drop}
 use Rattle.matching.specs.Refusals.{noneBad}
 use Rattle.matching.specs.Request.{arrivalOf, ackGiven}
 use Rattle.matching.specs.declared.layout.Entry.{Entry}
@@ -22,7 +22,7 @@ use Rattle.portals.specs.Refusals.{Condition, goodArguments}
 use Rattle.portals.specs.Answers.{Answer, MADE, PRIORITY, OVERFLOW, isRefused}
 use Rattle.portals.specs.Outcome.{Outcome, refusal, guarded}
 use Rattle.portals.specs.Making.{notMade, badSetting, new}
-use Rattle.portals.specs.Events.{oldest, readEvent}
+use Rattle.portals.specs.Events.{oldestOf, withoutOldest, readEvent}
 use Rattle.portals.specs.Counters.{counterTests, setCounter, increment}
 use Rattle.portals.specs.Request.{plan, decided, answerBy, requestState, requestTests, put, get}
 use Rattle.portals.specs.EarlyMessages.{Walk, appendBy, foundOnce, takenBy, appendTests, append, unlinkTests, unlink, lookedAt, deleted, walkFor, searched, searchTests, search}
@@ -43,22 +43,18 @@ use Rattle.portals.proofs.EarlyKept.{append-sound, unlink-sound, search
 
 -- ## Soundness
 
-oldest-sound : (v : View) (events : List Event) → v .queue .events ≡ events → Sound v → Sound (oldest v events .state)
-oldest-sound v [] e s = s
-oldest-sound v (x ∷ rest) e s =
-    let n : length (x ∷ rest) ≤ EVENTS = subst (λ (l : List Event). length l ≤ EVENTS) e (s .queued) in
-    queue-kept v (record { events = rest; lost = v .queue .lost }) s (omega arith)
-
-read-event-sound : (v : View) → Sound v → Sound (readEvent v .state)
+pub read-event-sound : (v : View) → Sound v → Sound (readEvent v .state)
 unfolding readEvent
-read-event-sound v s = oldest-sound v (v .queue .events) refl s
+read-event-sound v s =
+    let n : length (v .queue .events) ≤ EVENTS = s .queued in
+    queue-kept v (withoutOldest (v .queue)) s (simp length-drop (omega arith))
 
-set-sound : (v : View) (x : CounterChange) → Sound v → Sound (setCounter v x .state)
+pub set-sound : (v : View) (x : CounterChange) → Sound v → Sound (setCounter v x .state)
 unfolding setCounter
 set-sound v x s =
     guard-cases (λ o. Sound (o .state)) (refusal v tt) (counterTests (x .counter)) _ (λ r. s) (λ passed. counters-kept v _ s)
 
-increment-sound : (v : View) (x : CounterChange) → Sound v → Sound (increment v x .state)
+pub increment-sound : (v : View) (x : CounterChange) → Sound v → Sound (increment v x .state)
 unfolding increment
 increment-sound v x s =
     guard-cases (λ o. Sound (o .state)) (refusal v tt) (counterTests (x .counter)) _ (λ r. s) (λ passed. counters-kept v _ s)
@@ -83,7 +79,7 @@ setting-fits c e = leb-true (c .size) MEMORY (by (leb (c .size) MEMORY) e)
     by true e = refl
     by false e = e
 
-new-sound : (c : Settings) → Sound (new c .state)
+pub new-sound : (c : Settings) → Sound (new c .state)
 unfolding new
 new-sound c =
     guard-cases (λ (o : Outcome View Unit). Sound (o .state)) notMade
@@ -113,6 +109,10 @@ guarded-orderly v b tests does answers size =
       buffer = λ e. absurd (false≢true (sym answers ∙ e));
       fixed = size;
     })
+
+pub oldest-answers : (events : List Event) → isRefused (oldestOf events) ≡ false
+oldest-answers [] = refl
+oldest-answers (e ∷ rest) = refl
 
 module _ (v : View) where
   append-by-answers : (isTaken : Bool) (e : Entry) (w : Walk Header) → isRefused (appendBy isTaken v e w .answer) ≡ false
@@ -175,13 +175,9 @@ module _ (v : View) where
       (request-answers (q .portal) a (q .ack) (decided v q a))
       (request-rest (q .portal) a (decided v q a) .0)
 
-  oldest-orderly : (events : List Event) → Orderly v tt (oldest v events)
-  oldest-orderly [] = guarded-orderly v tt [] (oldest v []) refl refl
-  oldest-orderly (x ∷ rest) = guarded-orderly v tt [] (oldest v (x ∷ rest)) refl refl
-
   read-event-orderly : Orderly v tt (readEvent v)
   unfolding readEvent
-  read-event-orderly = oldest-orderly (v .queue .events)
+  read-event-orderly = guarded-orderly v tt [] _ (oldest-answers (v .queue .events)) refl
 
   set-orderly : (x : CounterChange) → Orderly v tt (setCounter v x)
   unfolding setCounter
@@ -245,10 +241,6 @@ same-last : {B : Type 0} (v : View) (b : B) (tests : List Condition) (does : Out
 same-last v b tests does h =
     guard-cases (λ (o : Outcome View _). o .state .last ≡ v .last) (refusal v b) tests does (λ r. refl) (λ passed. h)
 
-oldest-last : (v : View) (events : List Event) → oldest v events .state .last ≡ v .last
-oldest-last v [] = refl
-oldest-last v (x ∷ rest) = refl
-
 last-kept : (v : View) (memory : List ℕ) (c : Call) → isAppend c ≡ false → stateAfter v memory c .last ≡ v .last
 unfolding unlink search put get readEvent setCounter increment
 last-kept v memory (calls.append e) h = absurd (true≢false h)
@@ -263,7 +255,7 @@ last-kept v memory (calls.put q payload) h =
 last-kept v memory (calls.get q reply) h =
     let a = arrivalOf q Kind.Get (length reply) in
     same-last v reply (requestTests v memory q (length reply)) _ (request-rest v (q .portal) a (decided v q a) .1)
-last-kept v memory calls.readEvent h = oldest-last v (v .queue .events)
+last-kept v memory calls.readEvent h = refl
 last-kept v memory (calls.setCounter x) h = same-last v tt (counterTests (x .counter)) _ refl
 last-kept v memory (calls.increment x) h = same-last v tt (counterTests (x .counter)) _ refl
 last-kept v memory (calls.readCounter k) h = refl

@@ -10,4 +10,7 @@ pub mod KeptLaws
 pub mod RequestKept
 pub mod EarlyKept
 pub mod CallLaws
+pub mod AdmitLaws
+pub mod MetLaws
+pub mod PartCalls
 pub mod CasesHold

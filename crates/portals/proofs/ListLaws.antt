@@ -44,6 +44,10 @@ pub cond-cases : {A : Type 0} (P : A → Type 0) (b : Bool) (x y : A) → (b ≡
 cond-cases P true x y f g = f refl
 cond-cases P false x y f g = g refl
 
+pub cond-map : {A B : Type 0} (f : A → B) (b : Bool) (x y : A) → f (cond b x y) ≡ cond b (f x) (f y)
+cond-map f true x y = refl
+cond-map f false x y = refl
+
 -- ## Every element passes
 
 module _ {A : Type 0} (p : A → Bool) where

@@ -3,7 +3,7 @@ use mathlib.Core.Bool.{Bool, true, false, cond}
 use mathlib.Core.List.{List, [], _∷_, _++_}
 use Prim.Native.Nat.{ℕ}
 use lib.Dec.{eqb, ltb}
-use lib.ListN.{length}
+use lib.ListN.{length, drop}
 use Rattle.matching.specs.Request.{hdrdataOf}
 use Rattle.matching.specs.Events.{disabled}
 use Rattle.matching.specs.declared.layout.Entry.{Entry}
@@ -16,7 +16,7 @@ use Rattle.matching.specs.declared.events.FailType.the-variants as FailType
 use Rattle.portals.specs.Sizes.{EVENTS}
 use Rattle.portals.specs.Kinds.{kindOf, eventNumber, eventKind, failNumber, failType}
 use Rattle.portals.specs.View.{View, EventQueue, withQueue}
-use Rattle.portals.specs.Answers.{EVENT, NONE}
+use Rattle.portals.specs.Answers.{Answer, EVENT, NONE}
 use Rattle.portals.specs.Outcome.{Outcome, guarded}
 use Rattle.portals.specs.declared.layout.HeldEntry.{HeldEntry}
 use Rattle.portals.specs.declared.layout.Header.{Header}
@@ -160,11 +160,17 @@ postAll q (i ∷ is) = postAll (post q i) is
 -- ## The call
 
 -- "Reading returns the oldest, or NONE."
-abbrev pub oldest : View → List Event → Outcome View Unit
-oldest v [] = record { answer = NONE; state = v; buffer = tt }
-oldest v (e ∷ rest) =
-    record { answer = EVENT e; state = withQueue v (record { events = rest; lost = v .queue .lost }); buffer = tt }
+abbrev pub oldestOf : List Event → Answer
+oldestOf [] = NONE
+oldestOf (e ∷ rest) = EVENT e
+
+abbrev pub withoutOldest : EventQueue → EventQueue
+withoutOldest q = record { events = drop 1 (q .events); lost = q .lost }
+
+abbrev pub eventTaken : View → Outcome View Unit
+eventTaken v =
+    record { answer = oldestOf (v .queue .events); state = withQueue v (withoutOldest (v .queue)); buffer = tt }
 
 -- it has no argument to refuse
 unfoldable pub readEvent : View → Outcome View Unit
-readEvent v = guarded v tt [] (oldest v (v .queue .events))
+readEvent v = guarded v tt [] (eventTaken v)

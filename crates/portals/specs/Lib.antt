@@ -3,7 +3,6 @@ pub mod Sizes
 pub mod Kinds
 pub mod View
 pub mod Refusals
-pub mod Parts
 pub mod Answers
 pub mod Outcome
 pub mod Making
@@ -11,6 +10,7 @@ pub mod Events
 pub mod Counters
 pub mod Request
 pub mod EarlyMessages
+pub mod Parts
 pub mod Promises
 pub mod Calls
 pub mod BenchCases

@@ -5,10 +5,12 @@ use mathlib.Core.Bool.{Bool, true}
 use mathlib.Core.List.{List}
 use Prim.Native.Nat.{ℕ, _≤_}
 use lib.ListN.{length, take}
+use Rattle.matching.specs.declared.refusals.Refusal.{Refusal}
 use Rattle.portals.specs.Sizes.{SLOTS, HEADERS, EVENTS, COUNTERS}
 use Rattle.portals.specs.Lists.{every}
-use Rattle.portals.specs.View.{EventQueue, isLinked, queueOf}
-use Rattle.portals.specs.Refusals.{distinct, entrySound}
+use Rattle.portals.specs.View.{View, EventQueue, isLinked, queueOf}
+use Rattle.portals.specs.Events.{withoutOldest}
+use Rattle.portals.specs.Refusals.{distinct, entrySound, Condition, admission}
 use Rattle.portals.specs.declared.layout.HeldEntry.{HeldEntry}
 use Rattle.portals.specs.declared.layout.Entries.{Entries}
 use Rattle.portals.specs.declared.layout.Header.{Header}
@@ -16,6 +18,8 @@ use Rattle.portals.specs.declared.layout.Unexpected.{Unexpected}
 use Rattle.portals.specs.declared.layout.Queue.{Queue}
 use Rattle.portals.specs.declared.layout.Target.{Target}
 use Rattle.portals.specs.declared.soundness.EntriesSeen.{EntriesSeen}
+use Rattle.portals.specs.declared.admission.Admission.{Admission}
+use Rattle.portals.specs.declared.admission.Admission.the-variants as Admission
 
 -- an array of `size` slots of which the count is in use
 pub record Fits {A : Type 0} (size : ℕ) (slots : List A) (count : ℕ) : Type 0 where
@@ -63,3 +67,13 @@ pub record SeenIn (entries : List HeldEntry) (size last : ℕ) (seen : EntriesSe
   pub sound : seen .sound ≡ every (entrySound size last) entries
   pub ascend : seen .ascend ≡ true → distinct entries ≡ true
   pub linked : seen .linked ≡ every isLinked entries
+
+-- whether a call is admitted: only where all parts fit
+pub record Admits (tests : View → List Condition) (t : Target) (a : Admission) : Type 0 where
+  pub answer : a ≡ admission tests t
+  pub fits : a ≡ Admission.Admitted → TargetFits t
+
+-- the queue after a read: without its oldest event where the call is admitted, else the very same
+pub record QueueRead (a : Admission) (q q′ : Queue) : Type 0 where
+  pub read : a ≡ Admission.Admitted → QueueHolds q′ (withoutOldest (queueOf q))
+  pub kept : (r : Refusal) → a ≡ Admission.Refused r → q′ ≡ q

@@ -17,6 +17,8 @@ use Rattle.portals.specs.View.{View, isLinked, viewOf}
 use Rattle.portals.specs.declared.layout.HeldEntry.{HeldEntry}
 use Rattle.portals.specs.declared.layout.Header.{Header}
 use Rattle.portals.specs.declared.layout.Target.{Target}
+use Rattle.portals.specs.declared.admission.Admission.{Admission}
+use Rattle.portals.specs.declared.admission.Admission.the-variants as Admission
 
 -- ## Sound
 
@@ -119,3 +121,16 @@ goodArguments argument = record { passed = noneBad argument; refusal = Refusal.A
 abbrev pub unlessRefused : {R : Type 0} → (Refusal → R) → List Condition → R → R
 unlessRefused refuse [] does = does
 unlessRefused refuse (c ∷ cs) does = cond (c .passed) (unlessRefused refuse cs does) (refuse (c .refusal))
+
+-- whether a call is admitted, on any state: BAD_STATE comes before its own tests
+abbrev pub admissionIf : Bool → List Condition → Admission
+admissionIf true tests = unlessRefused Admission.Refused tests Admission.Admitted
+admissionIf false tests = Admission.Refused Refusal.BadState
+
+abbrev pub admission : (View → List Condition) → Target → Admission
+admission tests t = admissionIf (isSound t) (tests (viewOf t))
+
+-- what is refused, or what is done where the call is admitted
+abbrev pub byAdmission : {R : Type 0} → (Refusal → R) → R → Admission → R
+byAdmission refuse does Admission.Admitted = does
+byAdmission refuse does (Admission.Refused r) = refuse r

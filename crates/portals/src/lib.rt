@@ -1,10 +1,15 @@
 // Document 01's target state: what a target holds, when it is sound, and what every call on it answers and leaves.
+pub mod admission;
 pub mod answers;
 pub mod bench;
+pub mod counters;
 mod entries;
 mod event_queue;
+pub mod events;
 pub mod laws;
 pub mod layout;
+pub mod making;
+pub mod registers;
 pub mod requests;
 pub mod soundness;
 mod unexpected;

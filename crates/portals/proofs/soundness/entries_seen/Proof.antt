@@ -45,10 +45,11 @@ loop-again c =
     let l = e .before .before .before in
     let a = l .before .args in
     let f = l .before .pre in
-    let v = l .loop in
-    (every-more (a .t1 .slots) (a .t1 .count) f (entrySound (a .size) (a .last)) (v .i) _ (v .sound) _ zeroEntry (search needs) (e .entry-sound .ensures) (v .inv .0),
-    ascend-more (a .t1) f _ (v .ascend) (v .highest) (v .i) zeroEntry (search needs) (v .inv .1),
-    every-more (a .t1 .slots) (a .t1 .count) f isLinked (v .i) _ (v .linked) _ zeroEntry (search needs) refl (v .inv .2))
+    let v = l .loop in (
+      every-more (a .t1 .slots) (a .t1 .count) f (entrySound (a .size) (a .last)) (v .i) _ (v .sound) _ zeroEntry (search needs) (e .entry-sound .ensures) (v .inv .0),
+      ascend-more (a .t1) f _ (v .ascend) (v .highest) (v .i) zeroEntry (search needs) (v .inv .1),
+      every-more (a .t1 .slots) (a .t1 .count) f isLinked (v .i) _ (v .linked) _ zeroEntry (search needs) refl (v .inv .2),
+    )
 
 returns : tie.Need-returns Inv-loop μ-loop
 returns c =

@@ -61,9 +61,10 @@ loop-holds c =
     let o = c .before .before .before .before in
     let a = o .before .args in
     let h = getD (a .t2 .slots) (o .headers .i) zeroHeader in
-    let e = header-by (entriesOf (a .t1)) h (sym (c .before .lengths-kept .ensures) ∙ not-false _ (c .if1 .left)) in
-    (around (holds h) (o .before .pre .0) (o .headers .inv .0),
-    o .headers .inv .1 ∙ every-turn (a .t2 .slots) (a .t2 .count) (o .before .pre .1) (headerSound (entriesOf (a .t1))) (o .headers .i) zeroHeader (search needs) ∙ rw e)
+    let e = header-by (entriesOf (a .t1)) h (sym (c .before .lengths-kept .ensures) ∙ not-false _ (c .if1 .left)) in (
+      around (holds h) (o .before .pre .0) (o .headers .inv .0),
+      o .headers .inv .1 ∙ every-turn (a .t2 .slots) (a .t2 .count) (o .before .pre .1) (headerSound (entriesOf (a .t1))) (o .headers .i) zeroHeader (search needs) ∙ rw e,
+    )
 
 mul-x : tie.Need-mul-x Inv-loop μ-loop Inv-headers μ-headers
 mul-x c = search needs

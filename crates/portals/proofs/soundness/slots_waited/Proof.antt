@@ -54,18 +54,20 @@ entries-again c =
     let o = c .before .before .before .before in
     let a = o .before .args in
     let x = getD (a .t1 .slots) (o .entries .i) zeroEntry in
-    let e = slot-linked (headersOf (a .t2)) x (c .if1 .taken) in
-    (o .entries .inv .0,
-    o .entries .inv .1 ∙ every-on (a .t1 .slots) (a .t1 .count) (o .before .pre .0) (keepsSlot (headersOf (a .t2))) (o .entries .i) zeroEntry (search needs) e)
+    let e = slot-linked (headersOf (a .t2)) x (c .if1 .taken) in (
+      o .entries .inv .0,
+      o .entries .inv .1 ∙ every-on (a .t1 .slots) (a .t1 .count) (o .before .pre .0) (keepsSlot (headersOf (a .t2))) (o .entries .i) zeroEntry (search needs) e,
+    )
 
 loop-holds : tie.Need-loop-holds Inv-loop μ-loop Inv-entries μ-entries
 loop-holds c =
     let o = c .before .before .before .before in
     let a = o .before .args in
     let x = getD (a .t1 .slots) (o .entries .i) zeroEntry in
-    let e = slot-by (headersOf (a .t2)) x (c .if1 .left) in
-    (around (waitsIn x) (o .before .pre .1) (o .entries .inv .0),
-    o .entries .inv .1 ∙ every-turn (a .t1 .slots) (a .t1 .count) (o .before .pre .0) (keepsSlot (headersOf (a .t2))) (o .entries .i) zeroEntry (search needs) ∙ rw e)
+    let e = slot-by (headersOf (a .t2)) x (c .if1 .left) in (
+      around (waitsIn x) (o .before .pre .1) (o .entries .inv .0),
+      o .entries .inv .1 ∙ every-turn (a .t1 .slots) (a .t1 .count) (o .before .pre .0) (keepsSlot (headersOf (a .t2))) (o .entries .i) zeroEntry (search needs) ∙ rw e,
+    )
 
 mul-h : tie.Need-mul-h Inv-loop μ-loop Inv-entries μ-entries
 mul-h c = search needs

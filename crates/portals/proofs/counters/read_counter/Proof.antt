@@ -1,0 +1,28 @@
+use borrow.Author.Needs.{needs}
+use Rattle.portals.proofs.PartCalls.{read-counter-met}
+use Rattle.portals.proofs.counters.read_counter.Statement.{statement}
+use Rattle.portals.proofs.counters.read_counter.Tie as tie
+
+bad-unless-requires : tie.Need-bad-unless-requires
+bad-unless-requires c κs = search needs
+
+admit-requires : tie.Need-admit-requires
+admit-requires c κs = search needs
+
+counter-at-requires : tie.Need-counter-at-requires
+counter-at-requires c κs = search needs
+
+counter-answer-requires : tie.Need-counter-answer-requires
+counter-answer-requires c κs = search needs
+
+returns : tie.Need-returns
+returns c =
+    let o = c .before in
+    let m = o .before in
+    let b = m .before in
+    let a = b .before .args in
+    read-counter-met (a .t) _ (a .k) (b .bad-unless .result) (m .admit .result) (m .admit .ensures) (b .bad-unless .ensures)
+    (rw (← o .counter-at .ensures) (c .counter-answer .ensures))
+
+pub read-counter-spec : {M : Type 1} → statement M
+read-counter-spec = tie.close (tie.spec bad-unless-requires admit-requires counter-at-requires counter-answer-requires returns)

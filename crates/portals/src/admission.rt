@@ -1,0 +1,37 @@
+// Document 01, "Refusals": whether a call is admitted. It is decided before anything changes.
+use crate::layout::Target;
+use crate::soundness;
+use matching::refusals;
+use matching::refusals::BadArgument;
+use matching::refusals::Refusal;
+ghost use mathlib.Core.Path.{_≡_};
+ghost use mathlib.Core.List.{_∷_, []};
+ghost use Rattle.matching.specs.Refusals.{firstBad};
+ghost use Rattle.portals.specs.Refusals.{goodArguments};
+ghost use Rattle.portals.specs.Parts.{Admits};
+
+pub enum Admission {
+    Admitted,
+    // With the first refusal.
+    Refused(Refusal),
+}
+
+// The first bad argument of a call that tests only one.
+pub fn bad_unless(passed: bool, argument: BadArgument) -> BadArgument
+    ensures { λ r. ⌜ r ≡ firstBad (record { passed = passed; argument = argument } ∷ []) ⌝ }
+{
+    if passed { BadArgument::None } else { argument }
+}
+
+// A call of which only the state and the arguments are tested: with its first bad argument, or none.
+pub fn admit(t: Target, bad: BadArgument) -> Admission
+    ensures { λ r. ⌜ Admits (λ v. goodArguments bad ∷ []) t r ⌝ }
+{
+    if !soundness::sound(t) {
+        return Admission::Refused(Refusal::BadState);
+    }
+    if !refusals::none_bad(bad) {
+        return Admission::Refused(Refusal::ArgInvalid);
+    }
+    Admission::Admitted
+}
