@@ -7,26 +7,28 @@ use native.Mathlib.Nat.{mod-eq-of-lt}
 use native.Mathlib.Omega.{arith}
 use borrow.Author.Tests.{ltb-true, ltb-false}
 use lib.Dec.{ltb}
-use lib.ListN.{drop, set, getD}
+use lib.ListN.{set, getD}
 use lib.Seq.{set-getD}
 use Rattle.matching.specs.Refusals.{noneBad}
 use Rattle.matching.specs.declared.refusals.Refusal.{Refusal}
 use Rattle.matching.specs.declared.refusals.Refusal.the-variants as Refusal
 use Rattle.matching.specs.declared.refusals.BadArgument.{BadArgument}
 use Rattle.matching.specs.declared.refusals.BadArgument.the-variants as BadArgument
-use Rattle.portals.specs.Sizes.{EVENTS, COUNTERS}
-use Rattle.portals.specs.View.{View, zeroEvent, queueOf, viewOf}
-use Rattle.portals.specs.Refusals.{isSound, Condition, goodArguments, unlessRefused, admissionIf, admission, byAdmission}
-use Rattle.portals.specs.Counters.{counterTests}
-use Rattle.portals.specs.Events.{withoutOldest}
-use Rattle.portals.specs.Parts.{QueueFits, QueueHolds, QueueRead, Admits}
-use Rattle.portals.specs.declared.layout.Queue.{Queue}
-use Rattle.portals.specs.declared.layout.Counter.{Counter}
-use Rattle.portals.specs.declared.layout.Target.{Target}
+use Rattle.state.specs.Sizes.{EVENTS, COUNTERS}
+use Rattle.state.specs.View.{View, zeroEvent, queueOf, viewOf}
+use Rattle.state.specs.Soundness.{isSound}
+use Rattle.state.specs.Events.{withoutOldest}
+use Rattle.state.specs.Parts.{QueueFits, QueueHolds}
+use Rattle.state.specs.declared.layout.Queue.{Queue}
+use Rattle.state.specs.declared.layout.Counter.{Counter}
+use Rattle.state.specs.declared.layout.Target.{Target}
+use Rattle.state.proofs.RingLaws.{popped}
+use Rattle.portals.specs.Refusals.{Condition, goodArguments, unlessRefused, admissionIf, admission, byAdmission}
+use Rattle.portals.specs.CounterCalls.{counterTests}
+use Rattle.portals.specs.Steps.{QueueRead, Admits}
 use Rattle.portals.specs.declared.admission.Admission.{Admission}
 use Rattle.portals.specs.declared.admission.Admission.the-variants as Admission
 use Rattle.portals.proofs.GuardLaws.{AllPassed, guard-cases}
-use Rattle.portals.proofs.RingLaws.{popped}
 
 -- ## Admitted
 

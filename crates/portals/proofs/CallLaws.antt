@@ -1,5 +1,5 @@
 -- The laws of all calls: soundness is kept, the size is fixed, a refusal changes nothing, handles count up.
-use mathlib.Core.Path.{_≡_, refl, sym, _∙_, subst}
+use mathlib.Core.Path.{_≡_, refl, sym, _∙_}
 use mathlib.Core.Bool.{Bool, true, false, cond, true≢false, false≢true}
 use mathlib.Core.List.{List, [], _∷_}
 use Prim.Native.Nat.{ℕ, _≤_, _<_}
@@ -16,27 +16,28 @@ use Rattle.matching.specs.declared.refusals.BadArgument.the-variants as BadArgu
 use Rattle.matching.specs.declared.request.Kind.{Kind}
 use Rattle.matching.specs.declared.request.Kind.the-variants as Kind
 use Rattle.matching.specs.declared.request.Arrival.{Arrival}
-use Rattle.portals.specs.Sizes.{MEMORY, SLOTS, EVENTS, LAST-HANDLE}
-use Rattle.portals.specs.View.{View, emptyView}
+use Rattle.state.specs.Sizes.{MEMORY, SLOTS, EVENTS, LAST-HANDLE}
+use Rattle.state.specs.View.{View, emptyView}
+use Rattle.state.specs.Events.{withoutOldest}
+use Rattle.state.specs.declared.layout.Settings.{Settings}
+use Rattle.state.specs.declared.layout.Header.{Header}
+use Rattle.state.specs.declared.layout.Event.{Event}
+use Rattle.state.specs.declared.layout.CounterChange.{CounterChange}
+use Rattle.state.proofs.ListLaws.{both, cond-cases}
+use Rattle.state.proofs.SoundLaws.{Sound, sound-facts, facts-sound}
 use Rattle.portals.specs.Refusals.{Condition, goodArguments}
 use Rattle.portals.specs.Answers.{Answer, MADE, PRIORITY, OVERFLOW, isRefused}
 use Rattle.portals.specs.Outcome.{Outcome, refusal, guarded}
 use Rattle.portals.specs.Making.{notMade, badSetting, new}
-use Rattle.portals.specs.Events.{oldestOf, withoutOldest, readEvent}
-use Rattle.portals.specs.Counters.{counterTests, setCounter, increment}
+use Rattle.portals.specs.EventRead.{oldestOf, readEvent}
+use Rattle.portals.specs.CounterCalls.{counterTests, setCounter, increment}
 use Rattle.portals.specs.Request.{plan, decided, answerBy, requestState, requestTests, put, get}
 use Rattle.portals.specs.EarlyMessages.{Walk, appendBy, foundOnce, takenBy, appendTests, append, unlinkTests, unlink, lookedAt, deleted, walkFor, searched, searchTests, search}
 use Rattle.portals.specs.Calls.{Call, CallLaws, isAppend, Handles, linked, taken, refused, stateAfter, answerTo}
 use Rattle.portals.specs.Calls as calls
-use Rattle.portals.specs.declared.layout.Settings.{Settings}
-use Rattle.portals.specs.declared.layout.Header.{Header}
-use Rattle.portals.specs.declared.layout.Event.{Event}
-use Rattle.portals.specs.declared.layout.CounterChange.{CounterChange}
 use Rattle.portals.specs.declared.requests.Decision.{Decision}
 use Rattle.portals.specs.declared.requests.Decision.the-variants as Decision
-use Rattle.portals.proofs.ListLaws.{both, cond-cases}
 use Rattle.portals.proofs.GuardLaws.{guard-cases}
-use Rattle.portals.proofs.SoundLaws.{Sound, sound-facts, facts-sound}
 use Rattle.portals.proofs.KeptLaws.{counters-kept, queue-kept}
 use Rattle.portals.proofs.RequestKept.{none-beyond, put-sound, get-sound}
 use Rattle.portals.proofs.EarlyKept.{append-sound, unlink-sound, search-sound}

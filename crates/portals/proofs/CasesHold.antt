@@ -5,17 +5,18 @@ use Prim.Native.Nat.{ℕ, _-_}
 use native.Mathlib.Omega.{arith}
 use borrow.Author.Tests.{le-ltb}
 use Rattle.matching.specs.Bits.{isSet}
-use Rattle.matching.specs.Entry.{USE-ONCE, MANAGE-LOCAL}
-use Rattle.matching.specs.Entry.{badEntryArgument}
+use Rattle.matching.specs.Entry.{USE-ONCE, MANAGE-LOCAL, badEntryArgument}
 use Rattle.matching.specs.Request.{badRequestArgument, offsetUsed, available, bitsAgree, allowsLength, matches, verdictOn, accepted, place, localAfter, unlinks, ackGiven}
 use Rattle.matching.specs.EarlyMessages.{takesHeaders, fits}
 use Rattle.matching.specs.Events.{disabled}
 use Rattle.matching.specs.Counters.{amount}
 use Rattle.matching.specs.declared.layout.Entry.{Entry}
 use Rattle.matching.specs.declared.request.Arrival.{Arrival}
-use Rattle.portals.specs.Refusals.{soundView}
-use Rattle.portals.specs.Events.{post, readEvent}
-use Rattle.portals.specs.Counters.{counted, setCounter, increment, readCounter}
+use Rattle.state.specs.Soundness.{soundView}
+use Rattle.state.specs.Events.{post}
+use Rattle.state.specs.Counters.{counted}
+use Rattle.portals.specs.EventRead.{readEvent}
+use Rattle.portals.specs.CounterCalls.{setCounter, increment, readCounter}
 use Rattle.portals.specs.Request.{choose, decide, message, put}
 use Rattle.portals.specs.EarlyMessages.{walkFor, takenBy, append}
 use Rattle.portals.specs.BenchCases.{AllHold, done, _then_, table}

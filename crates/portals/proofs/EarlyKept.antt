@@ -12,18 +12,18 @@ use Rattle.matching.specs.Refusals.{noneBad}
 use Rattle.matching.specs.Entry.{MANAGE-LOCAL, badEntryArgument}
 use Rattle.matching.specs.EarlyMessages.{takesHeaders}
 use Rattle.matching.specs.declared.layout.Entry.{Entry}
-use Rattle.portals.specs.Lists.{every, any, select, withoutFirst}
-use Rattle.portals.specs.Sizes.{SLOTS, LAST-HANDLE}
-use Rattle.portals.specs.View.{View, isLinked, withEntries, withHeaders}
-use Rattle.portals.specs.Refusals.{hasHandle, names, entrySound, waitsIn, holds, bytesInside, headerSound, keepsSlot}
+use Rattle.state.specs.Lists.{every, any, select, withoutFirst}
+use Rattle.state.specs.Sizes.{SLOTS, LAST-HANDLE}
+use Rattle.state.specs.View.{View, isLinked, withEntries, withHeaders}
+use Rattle.state.specs.Soundness.{hasHandle, names, entrySound, waitsIn, holds, bytesInside, headerSound, keepsSlot, isLinkedAs}
+use Rattle.state.specs.Events.{linkEvent, searchEvent, postAll}
+use Rattle.state.specs.declared.layout.HeldEntry.{HeldEntry}
+use Rattle.state.specs.declared.layout.Header.{Header}
+use Rattle.state.proofs.ListLaws.{both, joined, or-left, or-right, cond-cases, every-join, every-imply, every-imply-none, every-selected, Part, part-all, part-select, part-selectNot, part-withoutFirst, part-length, part-every, any-select, any-withoutFirst, any-join, join-fits}
+use Rattle.state.proofs.SoundLaws.{Sound, entry-facts, facts-entry, header-kept, distinct-part, distinct-join, handle-new}
 use Rattle.portals.specs.Outcome.{refusal}
-use Rattle.portals.specs.Events.{linkEvent, searchEvent, postAll}
-use Rattle.portals.specs.EarlyMessages.{fitsHeader, Walk, walk, walkFor, usesOnce, foundOnce, handOutEvents, handedOut, takenBy, tookAll, nextHandle, newEntry, linked, appendBy, appendTests, append, isLinkedAs, unlinkTests, unlink, closingEvents, lookedAt, deleted, searchTests, search}
-use Rattle.portals.specs.declared.layout.HeldEntry.{HeldEntry}
-use Rattle.portals.specs.declared.layout.Header.{Header}
-use Rattle.portals.proofs.ListLaws.{both, joined, or-left, or-right, cond-cases, every-join, every-imply, every-imply-none, every-selected, Part, part-all, part-select, part-selectNot, part-withoutFirst, part-length, part-every, any-select, any-withoutFirst, any-join, join-fits}
+use Rattle.portals.specs.EarlyMessages.{fitsHeader, Walk, walk, walkFor, usesOnce, foundOnce, handOutEvents, handedOut, takenBy, tookAll, nextHandle, newEntry, linked, appendBy, appendTests, append, unlinkTests, unlink, closingEvents, lookedAt, deleted, searchTests, search}
 use Rattle.portals.proofs.GuardLaws.{guard-cases}
-use Rattle.portals.proofs.SoundLaws.{Sound, entry-facts, facts-entry, header-kept, distinct-part, distinct-join, handle-new}
 use Rattle.portals.proofs.KeptLaws.{Held, held-kept, counters-kept, queue-kept, post-fits, post-all-fits}
 
 -- ## The walk

@@ -3,8 +3,8 @@ use mathlib.Core.Path.{_≡_, refl, ap, _∙_}
 use mathlib.Core.Bool.{true, cond}
 use mathlib.Core.List.{List, [], _∷_}
 use Rattle.matching.specs.declared.refusals.Refusal.{Refusal}
+use Rattle.state.proofs.ListLaws.{cond-cases, cond-map}
 use Rattle.portals.specs.Refusals.{Condition, unlessRefused}
-use Rattle.portals.proofs.ListLaws.{cond-cases, cond-map}
 
 abbrev pub AllPassed : List Condition → Type 0
 AllPassed [] = Unit

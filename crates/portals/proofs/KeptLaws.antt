@@ -6,18 +6,18 @@ use Prim.Native.Nat.{ℕ, _≤_}
 use borrow.Author.Tests.{ltb-true}
 use lib.Dec.{ltb}
 use lib.ListN.{length}
-use Rattle.portals.specs.Lists.{every}
-use Rattle.portals.specs.Sizes.{SLOTS, HEADERS, EVENTS}
-use Rattle.portals.specs.View.{View, EventQueue, withEntries, withHeaders, withQueue, withCounters, withRegisters}
-use Rattle.portals.specs.Refusals.{distinct, entrySound, headerSound, keepsSlot}
-use Rattle.portals.specs.Events.{Issued, withGap, gapOf, isDisabled, postBy, post, postAll}
-use Rattle.portals.specs.declared.layout.HeldEntry.{HeldEntry}
-use Rattle.portals.specs.declared.layout.Header.{Header}
-use Rattle.portals.specs.declared.layout.Event.{Event}
-use Rattle.portals.specs.declared.layout.Counter.{Counter}
-use Rattle.portals.specs.declared.layout.Registers.{Registers}
-use Rattle.portals.proofs.ListLaws.{join-fits}
-use Rattle.portals.proofs.SoundLaws.{Sound}
+use Rattle.state.specs.Lists.{every}
+use Rattle.state.specs.Sizes.{SLOTS, HEADERS, EVENTS}
+use Rattle.state.specs.View.{View, EventQueue, withEntries, withHeaders, withQueue, withCounters, withRegisters}
+use Rattle.state.specs.Soundness.{distinct, entrySound, headerSound, keepsSlot}
+use Rattle.state.specs.Events.{Issued, withGap, gapOf, isDisabled, postBy, post, postAll}
+use Rattle.state.specs.declared.layout.HeldEntry.{HeldEntry}
+use Rattle.state.specs.declared.layout.Header.{Header}
+use Rattle.state.specs.declared.layout.Event.{Event}
+use Rattle.state.specs.declared.layout.Counter.{Counter}
+use Rattle.state.specs.declared.layout.Registers.{Registers}
+use Rattle.state.proofs.ListLaws.{join-fits}
+use Rattle.state.proofs.SoundLaws.{Sound}
 
 -- ## The parts that soundness does not read, or of which it only asks the length
 

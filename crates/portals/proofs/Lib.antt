@@ -1,11 +1,4 @@
-pub mod ListLaws
-pub mod SlotLaws
-pub mod RingLaws
-pub mod TurnLaws
-pub mod AroundLaws
 pub mod GuardLaws
-pub mod HandleLaws
-pub mod SoundLaws
 pub mod KeptLaws
 pub mod RequestKept
 pub mod EarlyKept

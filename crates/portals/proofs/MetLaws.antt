@@ -5,17 +5,18 @@ use mathlib.Core.List.{List, [], _∷_}
 use borrow.Author.Tests.{le-leb}
 use Rattle.matching.specs.declared.refusals.Refusal.{Refusal}
 use Rattle.matching.specs.declared.refusals.Refusal.the-variants as Refusal
-use Rattle.portals.specs.View.{View, viewOf}
-use Rattle.portals.specs.Refusals.{soundView, countsKept, isSound, Seen, sound, unsound, seenIf, seen, Condition, unlessRefused, admissionIf, admission, byAdmission}
+use Rattle.state.specs.View.{View, viewOf}
+use Rattle.state.specs.Soundness.{soundView, countsKept, isSound, sound, unsound, seen}
+use Rattle.state.specs.Parts.{TargetFits}
+use Rattle.state.specs.declared.layout.Target.{Target}
+use Rattle.state.proofs.ListLaws.{both, joined}
+use Rattle.state.proofs.SoundLaws.{Sound, sound-facts, facts-sound}
+use Rattle.portals.specs.Refusals.{Condition, unlessRefused, admissionIf, admission, byAdmission}
 use Rattle.portals.specs.Answers.{Answer, refused, isRefused}
-use Rattle.portals.specs.Outcome.{Outcome, refusal, guarded, guardedRead, unlessUnsound, readUnlessUnsound}
-use Rattle.portals.specs.Parts.{TargetFits}
+use Rattle.portals.specs.Outcome.{Outcome, refusal, guarded, guardedRead, readUnlessUnsound}
 use Rattle.portals.specs.Promises.{Met, ReadMet}
-use Rattle.portals.specs.declared.layout.Target.{Target}
 use Rattle.portals.specs.declared.admission.Admission.{Admission}
 use Rattle.portals.specs.declared.admission.Admission.the-variants as Admission
-use Rattle.portals.proofs.ListLaws.{both, joined}
-use Rattle.portals.proofs.SoundLaws.{Sound, sound-facts, facts-sound}
 
 -- ## What is seen of a state
 

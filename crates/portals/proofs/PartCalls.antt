@@ -8,26 +8,29 @@ use borrow.Author.Tests.{le-leb}
 use lib.ListN.{set}
 use Rattle.matching.specs.declared.refusals.BadArgument.{BadArgument}
 use Rattle.matching.specs.declared.refusals.BadArgument.the-variants as BadArgument
-use Rattle.portals.specs.View.{View, queueOf, viewOf, newTarget, emptyView, withQueue, withCounters}
-use Rattle.portals.specs.Refusals.{soundView, sound, seen, Condition, goodArguments, unlessRefused, byAdmission}
+use Rattle.state.specs.View.{View, queueOf, viewOf, newTarget, emptyView, withQueue, withCounters}
+use Rattle.state.specs.Soundness.{soundView, sound, seen}
+use Rattle.state.specs.Counters.{counterAt, increased, registerAt}
+use Rattle.state.specs.Parts.{TargetFits}
+use Rattle.state.specs.declared.layout.Settings.{Settings}
+use Rattle.state.specs.declared.layout.Queue.{Queue}
+use Rattle.state.specs.declared.layout.Counter.{Counter}
+use Rattle.state.specs.declared.layout.Counters.{Counters}
+use Rattle.state.specs.declared.layout.CounterChange.{CounterChange}
+use Rattle.state.specs.declared.layout.Target.{Target}
+use Rattle.state.proofs.SoundLaws.{Sound, facts-sound}
+use Rattle.portals.specs.Refusals.{goodArguments, unlessRefused, byAdmission}
 use Rattle.portals.specs.Answers.{Answer, MADE, DONE, COUNTER, REGISTER, refused, newAnswer}
-use Rattle.portals.specs.Outcome.{Outcome, guarded, guardedRead}
+use Rattle.portals.specs.Outcome.{Outcome, guarded}
 use Rattle.portals.specs.Making.{badSetting, notMade, new}
-use Rattle.portals.specs.Events.{oldestOf, eventTaken, readEvent}
-use Rattle.portals.specs.Counters.{counterAt, increased, badCounterArgument, counterTests, counterDone, setCounter, increment, readCounter, badRegisterArgument, registerAt, readRegister}
-use Rattle.portals.specs.Parts.{TargetFits, QueueRead, Admits}
+use Rattle.portals.specs.EventRead.{oldestOf, eventTaken, readEvent}
+use Rattle.portals.specs.CounterCalls.{badCounterArgument, counterTests, counterDone, setCounter, increment, readCounter, badRegisterArgument, readRegister}
+use Rattle.portals.specs.Steps.{QueueRead, Admits}
 use Rattle.portals.specs.Promises.{Met, ReadMet, NewMet}
-use Rattle.portals.specs.declared.layout.Settings.{Settings}
-use Rattle.portals.specs.declared.layout.Queue.{Queue}
-use Rattle.portals.specs.declared.layout.Counter.{Counter}
-use Rattle.portals.specs.declared.layout.Counters.{Counters}
-use Rattle.portals.specs.declared.layout.CounterChange.{CounterChange}
-use Rattle.portals.specs.declared.layout.Target.{Target}
 use Rattle.portals.specs.declared.answers.NewDone.{NewDone}
 use Rattle.portals.specs.declared.admission.Admission.{Admission}
 use Rattle.portals.specs.declared.admission.Admission.the-variants as Admission
 use Rattle.portals.proofs.GuardLaws.{guard-cases, unless-map}
-use Rattle.portals.proofs.SoundLaws.{Sound, facts-sound}
 use Rattle.portals.proofs.CallLaws.{new-sound, set-sound, increment-sound, read-event-sound, oldest-answers}
 use Rattle.portals.proofs.AdmitLaws.{admits-for}
 use Rattle.portals.proofs.MetLaws.{seen-sound, sound-joined, fits-counts, Ending, met, read-met}

@@ -13,6 +13,7 @@ use Rattle.matching.specs.Refusals.{noneBad}
 use Rattle.matching.specs.Entry.{ANY, MANAGE-LOCAL, badEntryArgument}
 use Rattle.matching.specs.Request.{badRequestArgument, arrivalOf, verdictOn, accepted, place, localAfter, unlinks}
 use Rattle.matching.specs.EarlyMessages.{takesHeaders}
+use Rattle.matching.proofs.RequestLaws.{accepted-requested, place-start, place-end, local-stays, local-length}
 use Rattle.matching.specs.declared.layout.Entry.{Entry}
 use Rattle.matching.specs.declared.layout.Request.{Request}
 use Rattle.matching.specs.declared.refusals.BadArgument.{BadArgument}
@@ -22,24 +23,23 @@ use Rattle.matching.specs.declared.request.Kind.the-variants as Kind
 use Rattle.matching.specs.declared.request.Arrival.{Arrival}
 use Rattle.matching.specs.declared.request.Verdict.{Verdict}
 use Rattle.matching.specs.declared.request.Verdict.the-variants as Verdict
-use Rattle.matching.proofs.RequestLaws.{accepted-requested, place-start, place-end, local-stays, local-length}
-use Rattle.portals.specs.Lists.{every, any, firstFrom, removeAt}
-use Rattle.portals.specs.Sizes.{MEMORY, HEADERS}
-use Rattle.portals.specs.View.{View, isLinked, zeroEntry, withEntries, withHeaders, withQueue}
-use Rattle.portals.specs.Refusals.{localKept, entrySound, waitsIn, holds, bytesInside, lengthsKept, headerSound, keepsSlot}
+use Rattle.state.specs.Lists.{every, any, firstFrom, removeAt}
+use Rattle.state.specs.Sizes.{MEMORY, HEADERS}
+use Rattle.state.specs.View.{View, isLinked, zeroEntry, withEntries, withHeaders, withQueue}
+use Rattle.state.specs.Soundness.{localKept, entrySound, waitsIn, holds, bytesInside, lengthsKept, headerSound, keepsSlot}
+use Rattle.state.specs.Events.{postAll}
+use Rattle.state.specs.declared.layout.HeldEntry.{HeldEntry}
+use Rattle.state.specs.declared.layout.Header.{Header}
+use Rattle.state.proofs.ListLaws.{both, joined, never, or-left, or-right, or-map, or-other, every-at, every-set, every-join, every-imply, part-removeAt, part-length, part-every, any-at, any-set, any-removeAt, any-join, any-last, join-fits, get-set, Found, first-cases, first-none}
+use Rattle.state.proofs.SoundLaws.{Sound, entry-facts, facts-entry, header-kept, distinct-part, distinct-set}
 use Rattle.portals.specs.Outcome.{refusal}
-use Rattle.portals.specs.Events.{postAll}
 use Rattle.portals.specs.Request.{isIn, isCandidate, orElse, choose, entryAt, hasRoom, decideBy, decideAt, decideOn, decide, message, planFor, plan, requestEvents, entryAfter, entriesAfter, headersAfter, countersAfter, delivered, requestState, requestTests, put, get}
-use Rattle.portals.specs.declared.layout.HeldEntry.{HeldEntry}
-use Rattle.portals.specs.declared.layout.Header.{Header}
 use Rattle.portals.specs.declared.requests.Choice.{Choice}
 use Rattle.portals.specs.declared.requests.Choice.the-variants as Choice
 use Rattle.portals.specs.declared.requests.Decision.{Decision}
 use Rattle.portals.specs.declared.requests.Decision.the-variants as Decision
 use Rattle.portals.specs.declared.requests.Plan.{Plan}
-use Rattle.portals.proofs.ListLaws.{both, joined, never, or-left, or-right, or-map, or-other, every-at, every-set, every-join, every-imply, part-removeAt, part-length, part-every, any-at, any-set, any-removeAt, any-join, any-last, join-fits, get-set, Found, first-cases, first-none}
 use Rattle.portals.proofs.GuardLaws.{guard-cases}
-use Rattle.portals.proofs.SoundLaws.{Sound, entry-facts, facts-entry, header-kept, distinct-part, distinct-set}
 use Rattle.portals.proofs.KeptLaws.{Held, held-kept, counters-kept, registers-kept, queue-kept, post-all-fits}
 
 -- ## What a decision to deliver says of the entry at its place

@@ -3,7 +3,7 @@ use mathlib.Core.Bool.{Bool, true, false}
 use Prim.Native.Nat.{ℕ}
 use Rattle.matching.specs.Refusals.{refusalNumber}
 use Rattle.matching.specs.declared.refusals.Refusal.{Refusal}
-use Rattle.portals.specs.declared.layout.Event.{Event}
+use Rattle.state.specs.declared.layout.Event.{Event}
 use Rattle.portals.specs.declared.answers.NewAnswer.{NewAnswer}
 use Rattle.portals.specs.declared.answers.NewAnswer.the-variants as New
 use Rattle.portals.specs.declared.answers.AppendAnswer.{AppendAnswer}

@@ -12,16 +12,17 @@ use Rattle.matching.specs.declared.layout.Request.{Request}
 use Rattle.matching.specs.declared.request.Kind.{Kind}
 use Rattle.matching.specs.declared.request.Kind.the-variants as Kind
 use Rattle.matching.specs.declared.request.Arrival.{Arrival}
-use Rattle.portals.specs.View.{View, EventQueue, emptyQueue, emptyView, withLast, withEntries, withHeaders, withQueue}
-use Rattle.portals.specs.Refusals.{soundView}
+use Rattle.state.specs.View.{View, EventQueue, emptyQueue, emptyView, withLast, withEntries, withHeaders, withQueue}
+use Rattle.state.specs.Soundness.{soundView}
+use Rattle.state.specs.Events.{Issued, linkEvent, post}
+use Rattle.state.specs.declared.layout.Event.{Event}
+use Rattle.state.specs.declared.layout.Registers.{Registers}
+use Rattle.state.specs.declared.layout.CounterChange.{CounterChange}
 use Rattle.portals.specs.Answers.{Answer, REFUSED, LINKED, OVERFLOW, DROPPED, PERM, OP, COUNTER}
-use Rattle.portals.specs.Events.{Issued, linkEvent, post, readEvent}
-use Rattle.portals.specs.Counters.{setCounter, increment, readCounter}
+use Rattle.portals.specs.EventRead.{readEvent}
+use Rattle.portals.specs.CounterCalls.{setCounter, increment, readCounter}
 use Rattle.portals.specs.Request.{message, put}
 use Rattle.portals.specs.EarlyMessages.{newEntry, append}
-use Rattle.portals.specs.declared.layout.Event.{Event}
-use Rattle.portals.specs.declared.layout.Registers.{Registers}
-use Rattle.portals.specs.declared.layout.CounterChange.{CounterChange}
 
 -- what happens to the event queue: an event is issued, or the oldest is read
 pub data Turn : Type 0 where

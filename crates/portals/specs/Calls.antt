@@ -6,18 +6,18 @@ use Prim.Native.Nat.{ℕ, _+_, _<_}
 use Rattle.matching.specs.declared.layout.Entry.{Entry}
 use Rattle.matching.specs.declared.layout.Request.{Request}
 use Rattle.matching.specs.declared.request.Arrival.{Arrival}
-use Rattle.portals.specs.Sizes.{LAST-HANDLE}
-use Rattle.portals.specs.View.{View}
-use Rattle.portals.specs.Refusals.{soundView}
+use Rattle.state.specs.Sizes.{LAST-HANDLE}
+use Rattle.state.specs.View.{View}
+use Rattle.state.specs.Soundness.{soundView}
+use Rattle.state.specs.declared.layout.Settings.{Settings}
+use Rattle.state.specs.declared.layout.CounterChange.{CounterChange}
+use Rattle.state.specs.declared.layout.CounterTest.{CounterTest}
 use Rattle.portals.specs.Answers.{Answer, REFUSED, LINKED, TAKEN, isRefused}
 use Rattle.portals.specs.Making as making
-use Rattle.portals.specs.Events as events
-use Rattle.portals.specs.Counters as counters
+use Rattle.portals.specs.EventRead as events
+use Rattle.portals.specs.CounterCalls as counters
 use Rattle.portals.specs.Request as request
 use Rattle.portals.specs.EarlyMessages as early
-use Rattle.portals.specs.declared.layout.Settings.{Settings}
-use Rattle.portals.specs.declared.layout.CounterChange.{CounterChange}
-use Rattle.portals.specs.declared.layout.CounterTest.{CounterTest}
 use Rattle.portals.specs.declared.requests.Decision.{Decision}
 use Rattle.portals.specs.declared.requests.Decision.the-variants as Decision
 

@@ -15,17 +15,18 @@ use Rattle.matching.specs.declared.refusals.Refusal.{Refusal}
 use Rattle.matching.specs.declared.refusals.Refusal.the-variants as Refusal
 use Rattle.matching.specs.declared.refusals.BadArgument.{BadArgument}
 use Rattle.matching.specs.declared.refusals.BadArgument.the-variants as BadArgument
-use Rattle.portals.specs.Lists.{any, select, selectNot, firstOnly, withoutFirst, isEmpty, sumOf}
-use Rattle.portals.specs.Sizes.{SLOTS, LAST-HANDLE}
-use Rattle.portals.specs.Kinds.{kindOf}
-use Rattle.portals.specs.View.{View, isLinked, isRetired, withLast, withEntries, withHeaders, withQueue, withCounters}
-use Rattle.portals.specs.Refusals.{hasHandle, names, waitsIn, keepsSlot, Condition, goodArguments}
+use Rattle.state.specs.Lists.{any, select, selectNot, firstOnly, withoutFirst, isEmpty, sumOf}
+use Rattle.state.specs.Sizes.{SLOTS, LAST-HANDLE}
+use Rattle.state.specs.Kinds.{kindOf}
+use Rattle.state.specs.View.{View, isRetired, withLast, withEntries, withHeaders, withQueue, withCounters}
+use Rattle.state.specs.Soundness.{names, waitsIn, keepsSlot, isLinkedAs}
+use Rattle.state.specs.Events.{Issued, linkEvent, overflowEvent, autoFreeEvent, searchEvent, noMatchEvent, post, postAll}
+use Rattle.state.specs.Counters.{counted}
+use Rattle.state.specs.declared.layout.HeldEntry.{HeldEntry}
+use Rattle.state.specs.declared.layout.Header.{Header}
+use Rattle.portals.specs.Refusals.{Condition, goodArguments}
 use Rattle.portals.specs.Answers.{LINKED, TAKEN, DONE, SEARCHED}
 use Rattle.portals.specs.Outcome.{Outcome, guarded}
-use Rattle.portals.specs.Events.{Issued, linkEvent, overflowEvent, autoFreeEvent, searchEvent, noMatchEvent, post, postAll}
-use Rattle.portals.specs.Counters.{counted}
-use Rattle.portals.specs.declared.layout.HeldEntry.{HeldEntry}
-use Rattle.portals.specs.declared.layout.Header.{Header}
 
 -- ## The walk
 
@@ -139,9 +140,6 @@ unfoldable pub append : View → Entry → Outcome View Unit
 append v e = guarded v tt (appendTests v e) (appended v e (takenBy e (v .headers)))
 
 -- ## Unlink
-
-abbrev pub isLinkedAs : ℕ → HeldEntry → Bool
-isLinkedAs handle x = isLinked x && hasHandle handle x
 
 -- "any handle not linked is ARG_INVALID"
 abbrev pub badHandleArgument : View → ℕ → BadArgument

@@ -5,12 +5,12 @@ use Rattle.matching.specs.Refusals.{firstBad}
 use Rattle.matching.specs.declared.refusals.Refusal.{Refusal}
 use Rattle.matching.specs.declared.refusals.BadArgument.{BadArgument}
 use Rattle.matching.specs.declared.refusals.BadArgument.the-variants as BadArgument
-use Rattle.portals.specs.Sizes.{MEMORY}
-use Rattle.portals.specs.View.{View, emptyView}
+use Rattle.state.specs.Sizes.{MEMORY}
+use Rattle.state.specs.View.{View, emptyView}
+use Rattle.state.specs.declared.layout.Settings.{Settings}
 use Rattle.portals.specs.Refusals.{goodArguments, unlessRefused}
 use Rattle.portals.specs.Answers.{MADE, refused}
 use Rattle.portals.specs.Outcome.{Outcome}
-use Rattle.portals.specs.declared.layout.Settings.{Settings}
 
 -- "size above 65,536"
 abbrev pub badSetting : Settings → BadArgument

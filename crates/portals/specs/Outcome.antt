@@ -2,8 +2,9 @@
 use mathlib.Core.List.{List}
 use Rattle.matching.specs.declared.refusals.Refusal.{Refusal}
 use Rattle.matching.specs.declared.refusals.Refusal.the-variants as Refusal
-use Rattle.portals.specs.View.{View}
-use Rattle.portals.specs.Refusals.{Seen, sound, unsound, Condition, unlessRefused}
+use Rattle.state.specs.View.{View}
+use Rattle.state.specs.Soundness.{Seen, sound, unsound}
+use Rattle.portals.specs.Refusals.{Condition, unlessRefused}
 use Rattle.portals.specs.Answers.{Answer, refused}
 
 -- S: how the state is given, as a view or as seen; B: the buffer that may be written, a put's memory or a get's reply

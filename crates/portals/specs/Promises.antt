@@ -5,19 +5,19 @@ use mathlib.Core.List.{List}
 use Prim.Native.Nat.{ℕ}
 use Rattle.matching.specs.declared.layout.Entry.{Entry}
 use Rattle.matching.specs.declared.layout.Request.{Request}
-use Rattle.portals.specs.View.{View, newTarget}
-use Rattle.portals.specs.Refusals.{Seen, sound, seen}
+use Rattle.state.specs.View.{View, newTarget}
+use Rattle.state.specs.Soundness.{Seen, sound, seen}
+use Rattle.state.specs.declared.layout.Settings.{Settings}
+use Rattle.state.specs.declared.layout.CounterChange.{CounterChange}
+use Rattle.state.specs.declared.layout.CounterTest.{CounterTest}
+use Rattle.state.specs.declared.layout.Target.{Target}
 use Rattle.portals.specs.Answers.{Answer, isRefused, newAnswer, appendAnswer, confirmation, searchAnswer, requestAnswer, eventAnswer, counterAnswer, registerAnswer, readyAnswer, pollAnswer}
 use Rattle.portals.specs.Outcome.{Outcome, unlessUnsound, readUnlessUnsound}
 use Rattle.portals.specs.Making.{new}
-use Rattle.portals.specs.Events.{readEvent}
-use Rattle.portals.specs.Counters.{setCounter, increment, readCounter, readRegister, ready, poll}
+use Rattle.portals.specs.EventRead.{readEvent}
+use Rattle.portals.specs.CounterCalls.{setCounter, increment, readCounter, readRegister, ready, poll}
 use Rattle.portals.specs.Request.{put, get}
 use Rattle.portals.specs.EarlyMessages.{append, unlink, search}
-use Rattle.portals.specs.declared.layout.Settings.{Settings}
-use Rattle.portals.specs.declared.layout.CounterChange.{CounterChange}
-use Rattle.portals.specs.declared.layout.CounterTest.{CounterTest}
-use Rattle.portals.specs.declared.layout.Target.{Target}
 use Rattle.portals.specs.declared.answers.NewDone.{NewDone}
 use Rattle.portals.specs.declared.answers.AppendDone.{AppendDone}
 use Rattle.portals.specs.declared.answers.Confirmed.{Confirmed}

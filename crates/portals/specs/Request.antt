@@ -17,18 +17,18 @@ use Rattle.matching.specs.declared.request.Verdict.{Verdict}
 use Rattle.matching.specs.declared.request.Verdict.the-variants as Verdict
 use Rattle.matching.specs.declared.refusals.Refusal.{Refusal}
 use Rattle.matching.specs.declared.refusals.Refusal.the-variants as Refusal
-use Rattle.portals.specs.Lists.{firstFrom, removeAt, overwritten}
-use Rattle.portals.specs.Sizes.{HEADERS}
-use Rattle.portals.specs.Kinds.{kindNumber}
-use Rattle.portals.specs.View.{View, isLinked, zeroEntry, withEntries, withHeaders, withQueue, withCounters, withRegisters}
+use Rattle.state.specs.Lists.{firstFrom, removeAt, overwritten}
+use Rattle.state.specs.Sizes.{HEADERS}
+use Rattle.state.specs.Kinds.{kindNumber}
+use Rattle.state.specs.View.{View, isLinked, zeroEntry, withEntries, withHeaders, withQueue, withCounters, withRegisters}
+use Rattle.state.specs.Events.{Issued, arrivalEvent, autoUnlinkEvent, postAll}
+use Rattle.state.specs.Counters.{counted, oneDropped, onePermission, oneOperation}
+use Rattle.state.specs.declared.layout.HeldEntry.{HeldEntry}
+use Rattle.state.specs.declared.layout.Header.{Header}
+use Rattle.state.specs.declared.layout.Counter.{Counter}
 use Rattle.portals.specs.Refusals.{Condition, goodArguments}
 use Rattle.portals.specs.Answers.{Answer, PRIORITY, OVERFLOW, DROPPED, PERM, OP}
 use Rattle.portals.specs.Outcome.{Outcome, guarded}
-use Rattle.portals.specs.Events.{Issued, arrivalEvent, autoUnlinkEvent, postAll}
-use Rattle.portals.specs.Counters.{counted, oneDropped, onePermission, oneOperation}
-use Rattle.portals.specs.declared.layout.HeldEntry.{HeldEntry}
-use Rattle.portals.specs.declared.layout.Header.{Header}
-use Rattle.portals.specs.declared.layout.Counter.{Counter}
 use Rattle.portals.specs.declared.requests.Choice.{Choice}
 use Rattle.portals.specs.declared.requests.Choice.the-variants as Choice
 use Rattle.portals.specs.declared.requests.Decision.{Decision}

@@ -1,14 +1,14 @@
 // Document 01, "Refusals": whether a call is admitted. It is decided before anything changes.
-use crate::layout::Target;
-use crate::soundness;
 use matching::refusals;
 use matching::refusals::BadArgument;
 use matching::refusals::Refusal;
+use state::layout::Target;
+use state::soundness;
 ghost use mathlib.Core.Path.{_≡_};
 ghost use mathlib.Core.List.{_∷_, []};
 ghost use Rattle.matching.specs.Refusals.{firstBad};
 ghost use Rattle.portals.specs.Refusals.{goodArguments};
-ghost use Rattle.portals.specs.Parts.{Admits};
+ghost use Rattle.portals.specs.Steps.{Admits};
 
 pub enum Admission {
     Admitted,

@@ -1,8 +1,8 @@
 // The answers of the calls: an enum for each; beside it, for a call that may change the state, the state that it leaves.
-use crate::layout::Counter;
-use crate::layout::Event;
-use crate::layout::Target;
 use matching::refusals::Refusal;
+use state::layout::Counter;
+use state::layout::Event;
+use state::layout::Target;
 
 pub enum NewAnswer {
     Made,

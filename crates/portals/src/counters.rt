@@ -1,47 +1,23 @@
-// Document 01, "Events", its last paragraph: the counting events, and the calls that set, increment and read one.
+// Document 01, "Events", its last paragraph: the calls that set, increment and read a counting event.
 use crate::admission;
 use crate::admission::Admission;
 use crate::answers::Confirmation;
 use crate::answers::Confirmed;
 use crate::answers::CounterAnswer;
-use crate::layout::Counter;
-use crate::layout::CounterChange;
-use crate::layout::Counters;
-use crate::layout::Target;
 use matching::refusals::BadArgument;
+use state::counters;
+use state::layout::Counter;
+use state::layout::CounterChange;
+use state::layout::Counters;
+use state::layout::Target;
 ghost use mathlib.Core.Path.{_≡_};
 ghost use Prim.Native.Nat.{_<_};
 ghost use lib.ListN.{set};
-ghost use Rattle.portals.specs.Sizes.{COUNTERS};
+ghost use Rattle.state.specs.Sizes.{COUNTERS};
 ghost use Rattle.portals.specs.Refusals.{byAdmission};
 ghost use Rattle.portals.specs.Answers.{DONE, COUNTER, refused, confirmation, counterAnswer};
-ghost use Rattle.portals.specs.Counters.{counterAt, increased};
 ghost use Rattle.portals.specs.Promises.{SetCounterMet, IncrementMet, ReadCounterMet};
 ghost use Rattle.portals.specs.declared.admission.Admission.the-variants as Admission;
-
-// Counter k; all zero where there is none.
-fn counter_at(cs: Counters, k: u64) -> Counter
-    ensures { λ r. ⌜ r ≡ counterAt (cs .slots) k ⌝ }
-{
-    if 16 <= k {
-        return Counter {
-            success: 0,
-            failure: 0,
-        };
-    }
-    let at = k as usize;
-    cs.slots[at]
-}
-
-// A counter grows in both fields, modulo 2^64.
-fn increased_by(c: Counter, success: u64, failure: u64) -> Counter
-    ensures { λ r. ⌜ r ≡ increased c success failure ⌝ }
-{
-    Counter {
-        success: std::num::wrapping_add_u64(c.success, success),
-        failure: std::num::wrapping_add_u64(c.failure, failure),
-    }
-}
 
 // What is stored: another counter where the call is admitted, else the one that stood there.
 fn counter_after(a: Admission, c: Counter, old: Counter) -> Counter
@@ -109,8 +85,8 @@ pub fn increment_counter(t: Target, x: CounterChange) -> Confirmed
 {
     let bad = admission::bad_unless(x.counter < 16, BadArgument::Counter);
     let a = admission::admit(t, bad);
-    let old = counter_at(t.counters, x.counter);
-    let c = increased_by(old, x.success, x.failure);
+    let old = counters::counter_at(t.counters, x.counter);
+    let c = counters::increased_by(old, x.success, x.failure);
     let mut next = t;
     next.counters = counters_after(t.counters, a, x.counter, c);
     Confirmed {
@@ -125,6 +101,6 @@ pub fn read_counter(t: Target, k: u64) -> CounterAnswer
 {
     let bad = admission::bad_unless(k < 16, BadArgument::Counter);
     let a = admission::admit(t, bad);
-    let c = counter_at(t.counters, k);
+    let c = counters::counter_at(t.counters, k);
     counter_answer(a, c)
 }

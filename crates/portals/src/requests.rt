@@ -1,6 +1,6 @@
 // Document 01, "Request": what its rules decide over the lists, before anything is done.
-use crate::layout::Header;
-use crate::layout::HeldEntry;
+use state::layout::Header;
+use state::layout::HeldEntry;
 
 // Rule 3's choice: a place among the entries.
 pub enum Choice {

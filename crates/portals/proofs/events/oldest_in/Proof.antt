@@ -1,7 +1,7 @@
 use Prim.Native.Nat.{_<_}
 use borrow.Author.Needs.{needs}
-use Rattle.portals.specs.View.{zeroEvent}
-use Rattle.portals.proofs.RingLaws.{popped}
+use Rattle.state.specs.View.{zeroEvent}
+use Rattle.state.proofs.RingLaws.{popped}
 use Rattle.portals.proofs.events.oldest_in.Statement.{statement}
 use Rattle.portals.proofs.events.oldest_in.Tie as tie
 

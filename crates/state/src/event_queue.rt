@@ -1,0 +1,112 @@
+// The event queue: a ring of 64 slots that begins at its head, which is read modulo 64.
+use crate::layout::Event;
+use crate::layout::Queue;
+use matching::events;
+use matching::events::EventKind;
+use matching::events::FailType;
+ghost use mathlib.Core.Path.{_≡_};
+ghost use mathlib.Core.Bool.{cond};
+ghost use Prim.Native.Nat.{_+_, _≤_};
+ghost use Rattle.state.specs.Sizes.{EVENTS};
+ghost use Rattle.state.specs.Kinds.{eventKind, failType};
+ghost use Rattle.state.specs.View.{queueOf};
+ghost use Rattle.state.specs.Parts.{QueueFits, QueueHolds};
+ghost use Rattle.state.specs.Events.{isDisabled, withGap, gapOf, post};
+
+// The kind that a number stands for.
+pub fn event_kind(n: u32) -> EventKind
+    ensures { λ r. ⌜ r ≡ eventKind n ⌝ }
+{
+    match n {
+        0 => EventKind::Link,
+        1 => EventKind::Put,
+        2 => EventKind::Get,
+        3 => EventKind::PutOverflow,
+        4 => EventKind::GetOverflow,
+        5 => EventKind::Search,
+        6 => EventKind::AutoUnlink,
+        _ => EventKind::AutoFree,
+    }
+}
+
+// The fail type that a number stands for.
+pub fn fail_type(n: u16) -> FailType
+    ensures { λ r. ⌜ r ≡ failType n ⌝ }
+{
+    if n == 0 {
+        FailType::Ok
+    } else {
+        FailType::NoMatch
+    }
+}
+
+// The options disable the event.
+pub fn is_event_disabled(e: Event, options: u32) -> bool
+    ensures { λ r. ⌜ r ≡ isDisabled (record { event = e; options = options }) ⌝ }
+{
+    let kind = event_kind(e.kind);
+    let fail = fail_type(e.fail);
+    events::is_disabled(options, kind, fail)
+}
+
+// The gap that the next event carries.
+pub fn gap_of(lost: u64) -> u16
+    ensures { λ r. ⌜ r ≡ gapOf lost ⌝ }
+{
+    if lost == 0 { 0 } else { 1 }
+}
+
+// What stands in the slot after the last event: the event with its gap if it joins the queue, else what stood there.
+pub fn slot_after(joins: bool, e: Event, gap: u16, old: Event) -> Event
+    ensures { λ r. ⌜ r ≡ cond joins (withGap e gap) old ⌝ }
+{
+    if joins {
+        let mut sent = e;
+        sent.gap = gap;
+        sent
+    } else {
+        old
+    }
+}
+
+// How many events the queue then holds.
+pub fn count_after(joins: bool, n: usize) -> usize
+    requires { ⌜ n ≤ EVENTS ⌝ }
+    ensures { λ r. ⌜ r ≡ cond joins (n + 1) n ⌝ }
+{
+    if joins { n + 1 } else { n }
+}
+
+// The mark of lost events: none after one that joins, set by one that is lost.
+pub fn lost_after(joins: bool, loses: bool, lost: u64) -> u64
+    ensures { λ r. ⌜ r ≡ cond joins 0 (cond loses 1 lost) ⌝ }
+{
+    if joins {
+        0
+    } else if loses {
+        1
+    } else {
+        lost
+    }
+}
+
+// An event is posted: unless the options disable it, it joins the queue's end, or is lost where the queue is full.
+pub fn posted(q: Queue, e: Event, options: u32) -> Queue
+    requires { ⌜ QueueFits q ⌝ }
+    ensures { λ r. ⌜ QueueHolds r (post (queueOf q) (record { event = e; options = options })) ⌝ }
+{
+    let n = q.count;
+    let disabled = is_event_disabled(e, options);
+    let room = n < 64;
+    let joins = !disabled & room;
+    let loses = !disabled & !room;
+    let gap = gap_of(q.lost);
+    let at = (q.head % 64 + n) % 64;
+    let old = q.slots[at];
+    let mut next = q;
+    let slot = slot_after(joins, e, gap, old);
+    next.slots[at] = slot;
+    next.count = count_after(joins, n);
+    next.lost = lost_after(joins, loses, q.lost);
+    next
+}

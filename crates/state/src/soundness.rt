@@ -1,0 +1,239 @@
+// Document 01, "Refusals": whether a state is sound. Every call on a target tests this first.
+//
+// In a state that calls made, one pass over the entries shows that their handles are distinct, since they ascend; a header's entry is
+// looked for where the last header's was found; and what waits nowhere is not looked for. Any other state gets the same answer, if
+// more slowly. A part is handed to a function by value only where that runs a loop over it: each time it is copied once.
+use crate::layout::Entries;
+use crate::layout::Header;
+use crate::layout::HeldEntry;
+use crate::layout::Target;
+use crate::layout::Unexpected;
+use matching::early_messages;
+use matching::entry;
+use matching::refusals;
+ghost use mathlib.Core.Path.{_≡_};
+ghost use mathlib.Core.Bool.{cond};
+ghost use Prim.Native.Nat.{_+_, _<_};
+ghost use lib.Dec.{eqb};
+ghost use Rattle.state.specs.Lists.{every};
+ghost use Rattle.state.specs.View.{entriesOf, headersOf};
+ghost use Rattle.state.specs.Soundness.{distinct, entrySound, holds, lengthsKept, headerSound, keepsSlot, countsKept, isSound};
+ghost use Rattle.state.specs.Parts.{EntriesFit, UnexpectedFit, TargetFits, SeenIn, Tested};
+
+// What one pass over the entries tells.
+pub struct EntriesSeen {
+    // Each alone is sound.
+    pub sound: bool,
+    // Each handle is above the one before it.
+    pub ascend: bool,
+    // None is retired.
+    pub linked: bool,
+}
+
+// No two entries have the same handle: all pairs are compared.
+fn pairs_differ(es: Entries) -> bool
+    requires { ⌜ EntriesFit es ⌝ }
+    ensures { λ r. ⌜ r ≡ distinct (entriesOf es) ⌝ }
+{
+    let n = es.count;
+    let mut i: usize = 0;
+    while i < n {
+        let x = es.slots[i];
+        let mut j = i + 1;
+        while j < n {
+            let y = es.slots[j];
+            if y.handle == x.handle {
+                return false;
+            }
+            j += 1;
+        }
+        i += 1;
+    }
+    true
+}
+
+// One entry, linked or retired: its handle was given, it passes append's tests, and its local offset is one that it can have.
+fn entry_sound(x: HeldEntry, size: u32, last: u32) -> bool
+    ensures { λ r. ⌜ r ≡ entrySound size last x ⌝ }
+{
+    let e = x.entry;
+    let given = (1 <= x.handle) & (x.handle <= last);
+    let bad = entry::bad_entry_argument(e, size);
+    let good = refusals::none_bad(bad);
+    let managed = entry::is_set(e.options, entry::MANAGE_LOCAL);
+    given & good & ((x.local <= e.length) & (managed | (x.local == 0)))
+}
+
+// One pass over the entries.
+fn entries_seen(es: Entries, size: u32, last: u32) -> EntriesSeen
+    requires { ⌜ EntriesFit es ⌝ }
+    ensures { λ r. ⌜ SeenIn (entriesOf es) size last r ⌝ }
+{
+    let mut sound = true;
+    let mut ascend = true;
+    let mut linked = true;
+    let mut highest: u32 = 0;
+    let mut i: usize = 0;
+    while i < es.count {
+        let x = es.slots[i];
+        sound = sound & entry_sound(x, size, last);
+        ascend = ascend & (highest < x.handle);
+        linked = linked & (x.retired == 0);
+        highest = x.handle;
+        i += 1;
+    }
+    EntriesSeen {
+        sound,
+        ascend,
+        linked,
+    }
+}
+
+// The message of a header waits in this entry: an overflow entry of its portal that takes headers and has its bytes in its region.
+fn is_holder(x: HeldEntry, h: Header) -> bool
+    ensures { λ r. ⌜ r ≡ holds h x ⌝ }
+{
+    if h.handle != x.handle {
+        return false;
+    }
+    let e = x.entry;
+    let takes = early_messages::takes_headers(e);
+    let end = entry::exact_sum(h.place, h.accepted);
+    let bound = entry::exact_sum(e.start, e.length);
+    (e.portal == h.portal) & takes & ((e.start <= h.place) & (end <= bound))
+}
+
+// A header's accepted length is at most the requested one, and that at most a whole memory.
+fn lengths_kept(h: Header) -> bool
+    ensures { λ r. ⌜ r ≡ lengthsKept h ⌝ }
+{
+    (h.accepted <= h.requested) & (h.requested <= 65536)
+}
+
+// The place after one of `count` places: the first after the last.
+fn next_place(k: usize, count: usize) -> usize
+    requires { ⌜ k < count ⌝ }
+    ensures { λ r. ⌜ r ≡ cond (eqb (k + 1) count) 0 (k + 1) ⌝ }
+{
+    let next = k + 1;
+    if next == count { 0 } else { next }
+}
+
+// Every header: its lengths are kept, and some entry holds it. The search begins where the last header's entry was found, and goes
+// around.
+fn headers_held(es: Entries, us: Unexpected) -> bool
+    requires { ⌜ EntriesFit es ⌝ }
+    requires { ⌜ UnexpectedFit us ⌝ }
+    ensures { λ r. ⌜ r ≡ every (headerSound (entriesOf es)) (headersOf us) ⌝ }
+{
+    let mut i: usize = 0;
+    let mut k: usize = 0;
+    'headers: while i < us.count {
+        let h = us.slots[i];
+        if !lengths_kept(h) {
+            return false;
+        }
+        i += 1;
+        let mut left = es.count;
+        while 0 < left {
+            let x = es.slots[k];
+            if is_holder(x, h) {
+                continue 'headers;
+            }
+            k = next_place(k, es.count);
+            left -= 1;
+        }
+        return false;
+    }
+    true
+}
+
+// Every retired entry has a message waiting. The search begins where the last one's was found, and goes around.
+fn slots_waited(es: Entries, us: Unexpected) -> bool
+    requires { ⌜ EntriesFit es ⌝ }
+    requires { ⌜ UnexpectedFit us ⌝ }
+    ensures { λ r. ⌜ r ≡ every (keepsSlot (headersOf us)) (entriesOf es) ⌝ }
+{
+    let mut i: usize = 0;
+    let mut k: usize = 0;
+    'entries: while i < es.count {
+        let x = es.slots[i];
+        i += 1;
+        if x.retired == 0 {
+            continue 'entries;
+        }
+        let mut left = us.count;
+        while 0 < left {
+            let h = us.slots[k];
+            if h.handle == x.handle {
+                continue 'entries;
+            }
+            k = next_place(k, us.count);
+            left -= 1;
+        }
+        return false;
+    }
+    true
+}
+
+// The counts are within the sizes.
+fn counts_kept(t: Target) -> bool
+    ensures { λ r. ⌜ Tested countsKept t r ⌝ }
+{
+    (t.entries.count <= 64) & (t.unexpected.count <= 32) & (t.queue.count <= 64)
+}
+
+// No two entries have the same handle. Pairs are compared only where the handles do not ascend.
+fn handles_distinct(t: Target, seen: EntriesSeen) -> bool
+    requires { ⌜ TargetFits t ⌝ }
+    requires { ⌜ SeenIn (entriesOf (t .entries)) (t .size) (t .last) seen ⌝ }
+    ensures { λ r. ⌜ r ≡ distinct (entriesOf (t .entries)) ⌝ }
+{
+    if seen.ascend {
+        return true;
+    }
+    let es = t.entries;
+    pairs_differ(es)
+}
+
+// Every header is sound. Nothing is looked for where none waits.
+fn headers_sound(t: Target) -> bool
+    requires { ⌜ TargetFits t ⌝ }
+    ensures { λ r. ⌜ r ≡ every (headerSound (entriesOf (t .entries))) (headersOf (t .unexpected)) ⌝ }
+{
+    if t.unexpected.count == 0 {
+        return true;
+    }
+    let es = t.entries;
+    let us = t.unexpected;
+    headers_held(es, us)
+}
+
+// Every entry keeps its slot. Nothing is looked for where none is retired.
+fn slots_kept(t: Target, seen: EntriesSeen) -> bool
+    requires { ⌜ TargetFits t ⌝ }
+    requires { ⌜ SeenIn (entriesOf (t .entries)) (t .size) (t .last) seen ⌝ }
+    ensures { λ r. ⌜ r ≡ every (keepsSlot (headersOf (t .unexpected))) (entriesOf (t .entries)) ⌝ }
+{
+    if seen.linked {
+        return true;
+    }
+    let es = t.entries;
+    let us = t.unexpected;
+    slots_waited(es, us)
+}
+
+// The state is sound.
+pub fn sound(t: Target) -> bool
+    ensures { λ r. ⌜ Tested isSound t r ⌝ }
+{
+    if !counts_kept(t) {
+        return false;
+    }
+    let es = t.entries;
+    let seen = entries_seen(es, t.size, t.last);
+    let distinct = handles_distinct(t, seen);
+    let headers = headers_sound(t);
+    let slots = slots_kept(t, seen);
+    (t.size <= 65536) & distinct & seen.sound & headers & slots
+}

@@ -1,0 +1,40 @@
+// The unexpected headers: an array in the order of their arrival.
+use crate::layout::Header;
+use crate::layout::Unexpected;
+ghost use mathlib.Core.List.{_++_, _∷_, []};
+ghost use Prim.Native.Nat.{_<_};
+ghost use Rattle.state.specs.Sizes.{HEADERS};
+ghost use Rattle.state.specs.Lists.{removeAt};
+ghost use Rattle.state.specs.View.{headersOf};
+ghost use Rattle.state.specs.Parts.{UnexpectedFit, UnexpectedHold};
+
+// One more header, the last to arrive.
+pub fn header_added(us: Unexpected, h: Header) -> Unexpected
+    requires { ⌜ UnexpectedFit us ⌝ }
+    requires { ⌜ us .count < HEADERS ⌝ }
+    ensures { λ r. ⌜ UnexpectedHold r (headersOf us ++ (h ∷ [])) ⌝ }
+{
+    let n = us.count;
+    let mut next = us;
+    next.slots[n] = h;
+    next.count = n + 1;
+    next
+}
+
+// The header at a place goes, and those after it move up.
+pub fn header_removed(us: Unexpected, at: usize) -> Unexpected
+    requires { ⌜ UnexpectedFit us ⌝ }
+    requires { ⌜ at < us .count ⌝ }
+    ensures { λ r. ⌜ UnexpectedHold r (removeAt at (headersOf us)) ⌝ }
+{
+    let n = us.count;
+    let mut next = us;
+    let mut i = at;
+    while i + 1 < n {
+        let h = next.slots[i + 1];
+        next.slots[i] = h;
+        i += 1;
+    }
+    next.count = n - 1;
+    next
+}
