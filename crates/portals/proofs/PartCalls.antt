@@ -87,34 +87,42 @@ module _ (t : Target) (counters : Counters) (answer : Answer) (x : CounterChange
   unfolding setCounter
   set-met e = counter-met (λ v. setCounter v x) (λ v. record { success = x .success; failure = x .failure }) (λ v. refl) (λ v. set-sound v x) e
 
-  pub increment-met : counters .slots
-      ≡ byAdmission (λ r. t .counters .slots)
-      (set (t .counters .slots) (x .counter) (increased (counterAt (t .counters .slots) (x .counter)) (x .success) (x .failure))) a
+  pub increment-met : (c : Counter)
+      → c ≡ increased (counterAt (t .counters .slots) (x .counter)) (x .success) (x .failure)
+      → counters .slots ≡ byAdmission (λ r. t .counters .slots) (set (t .counters .slots) (x .counter) c) a
       → Met (λ v. increment v x) t tt answer (countersLeft t counters) tt
   unfolding increment
-  increment-met e =
+  increment-met c is e =
       counter-met (λ v. increment v x) (λ v. increased (counterAt (v .counters) (x .counter)) (x .success) (x .failure)) (λ v. refl)
-      (λ v. increment-sound v x) e
+      (λ v. increment-sound v x)
+      (e ∙ ap (λ (n : Counter). byAdmission (λ r. t .counters .slots) (set (t .counters .slots) (x .counter) n) a) is)
 
 -- ## The calls that only read
 
 module _ (t : Target) (answer : Answer) (k : ℕ) (found : BadArgument) (a : Admission) (admits : Admits (λ v. goodArguments found ∷ []) t a) where
-  pub read-counter-met : found ≡ badCounterArgument k
-      → answer
-      ≡ byAdmission refused (COUNTER (counterAt (t .counters .slots) k .success) (counterAt (t .counters .slots) k .failure)) a
+  pub read-counter-met : (c : Counter)
+      → found ≡ badCounterArgument k
+      → c ≡ counterAt (t .counters .slots) k
+      → answer ≡ byAdmission refused (COUNTER (c .success) (c .failure)) a
       → ReadMet (λ v. readCounter v k) t answer
   unfolding readCounter
-  read-counter-met is-bad e =
+  read-counter-met c is-bad is e =
       read-met (λ v. readCounter v k) (λ v. COUNTER (counterAt (v .counters) k .success) (counterAt (v .counters) k .failure))
-      (λ v. counterTests k) (λ v. refl) t answer a (admits-for found (badCounterArgument k) t a is-bad admits) e
+      (λ v. counterTests k) (λ v. refl) t answer a
+      (admits-for found (badCounterArgument k) t a is-bad admits)
+      (e ∙ ap (λ (n : Counter). byAdmission refused (COUNTER (n .success) (n .failure)) a) is)
 
-  pub read-register-met : found ≡ badRegisterArgument k
-      → answer ≡ byAdmission refused (REGISTER (registerAt (t .registers) k)) a
+  pub read-register-met : (value : ℕ)
+      → found ≡ badRegisterArgument k
+      → value ≡ registerAt (t .registers) k
+      → answer ≡ byAdmission refused (REGISTER value) a
       → ReadMet (λ v. readRegister v k) t answer
   unfolding readRegister
-  read-register-met is-bad e =
+  read-register-met value is-bad is e =
       read-met (λ v. readRegister v k) (λ v. REGISTER (registerAt (v .registers) k))
-      (λ v. goodArguments (badRegisterArgument k) ∷ []) (λ v. refl) t answer a (admits-for found (badRegisterArgument k) t a is-bad admits) e
+      (λ v. goodArguments (badRegisterArgument k) ∷ []) (λ v. refl) t answer a
+      (admits-for found (badRegisterArgument k) t a is-bad admits)
+      (e ∙ ap (λ (n : ℕ). byAdmission refused (REGISTER n) a) is)
 
 -- ## The event queue
 

@@ -1,5 +1,5 @@
 -- Soundness as facts, one for each thing that document 01 asks, and what keeps each of them.
-use mathlib.Core.Path.{_≡_, refl, sym}
+use mathlib.Core.Path.{_≡_, refl, sym, _∙_}
 use mathlib.Core.Bool.{Bool, true, false, _&&_, not, and-true, and-false}
 use mathlib.Core.List.{List, [], _∷_, _++_}
 use Prim.Native.Nat.{ℕ, zero, suc, _+_, _%_, _≤_, _<_}
@@ -11,7 +11,7 @@ use Rattle.matching.specs.Refusals.{noneBad}
 use Rattle.matching.specs.Entry.{badEntryArgument}
 use Rattle.state.specs.Lists.{every, any}
 use Rattle.state.specs.Sizes.{MEMORY, SLOTS, HEADERS, EVENTS}
-use Rattle.state.specs.View.{View, entriesOf, headersOf}
+use Rattle.state.specs.View.{View, entriesOf, headersOf, viewOf}
 use Rattle.state.specs.Soundness.{sizesKept, hasHandle, distinct, handleGiven, localKept, entrySound, waitsIn, holds, lengthsKept, headerSound, keepsSlot, soundView, countsKept, isSound}
 use Rattle.state.specs.declared.layout.HeldEntry.{HeldEntry}
 use Rattle.state.specs.declared.layout.Header.{Header}
@@ -170,7 +170,17 @@ pub unsound-counts : (t : Target) → countsKept t ≡ false → isSound t ≡ f
 unfolding isSound
 unsound-counts t e = rw e
 
--- they are: then so are the lengths, and the rest decides
+-- they are: then so are the lengths, and only the size is left to test
+sizes-by : (t : Target) → countsKept t ≡ true → sizesKept (viewOf t) ≡ leb (t .size) MEMORY
+sizes-by t kept =
+    let k = counts-facts t kept in
+    let fits = leb (t .size) MEMORY in
+    rw (taken-fits (t .entries .count) SLOTS (t .entries .slots) (k .0))
+    (rw (taken-fits (t .unexpected .count) HEADERS (t .unexpected .slots) (k .1))
+    (rw (taken-fits (t .queue .count) EVENTS (drop (t .queue .head % EVENTS) (t .queue .slots) ++ t .queue .slots) (k .2))
+    (and-true (fits && true && true) ∙ and-true (fits && true) ∙ and-true fits)))
+
+-- and the rest decides
 pub sound-by : (t : Target) (handles entries headers slots : Bool)
     → countsKept t ≡ true
     → handles ≡ distinct (entriesOf (t .entries))
@@ -179,8 +189,4 @@ pub sound-by : (t : Target) (handles entries headers slots : Bool)
     → slots ≡ every (keepsSlot (headersOf (t .unexpected))) (entriesOf (t .entries))
     → (leb (t .size) MEMORY && handles && entries && headers && slots) ≡ isSound t
 unfolding isSound soundView
-sound-by t handles entries headers slots kept a b c d =
-    let k = counts-facts t kept in
-    rw (kept, taken-fits (t .entries .count) SLOTS (t .entries .slots) (k .0))
-    (rw (taken-fits (t .unexpected .count) HEADERS (t .unexpected .slots) (k .1))
-    (rw (taken-fits (t .queue .count) EVENTS (drop (t .queue .head % EVENTS) (t .queue .slots) ++ t .queue .slots) (k .2), and-true, and-true, and-true, a, b, c, d)))
+sound-by t handles entries headers slots kept a b c d = rw (kept, sizes-by t kept, a, b, c, d)

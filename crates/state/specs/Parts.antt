@@ -58,7 +58,7 @@ pub record Tested (test : Target → Bool) (t : Target) (passed : Bool) : Type 0
   pub answer : passed ≡ test t
   pub fits : passed ≡ true → TargetFits t
 
--- what one pass over the entries of a target tells of them
+-- what one pass over the entries of a target tells of them; handles that do not ascend may be distinct all the same
 pub record SeenIn (entries : List HeldEntry) (size last : ℕ) (seen : EntriesSeen) : Type 0 where
   pub sound : seen .sound ≡ every (entrySound size last) entries
   pub ascend : seen .ascend ≡ true → distinct entries ≡ true

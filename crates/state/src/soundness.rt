@@ -1,8 +1,9 @@
 // Document 01, "Refusals": whether a state is sound. Every call on a target tests this first.
 //
-// In a state that calls made, one pass over the entries shows that their handles are distinct, since they ascend; a header's entry is
-// looked for where the last header's was found; and what waits nowhere is not looked for. Any other state gets the same answer, if
-// more slowly. A part is handed to a function by value only where that runs a loop over it: each time it is copied once.
+// In a state that calls made, one pass over the entries shows that their handles are distinct, since they ascend; the entry of a header
+// is looked for from where the last header's was found; and nothing is looked for where no header waits and no entry is retired. Any
+// other state gets the same answer, if more slowly. A part is copied where it is handed to a function with a loop, so no such
+// function is called in a loop.
 use crate::layout::Entries;
 use crate::layout::Header;
 use crate::layout::HeldEntry;
@@ -28,28 +29,6 @@ pub struct EntriesSeen {
     pub ascend: bool,
     // None is retired.
     pub linked: bool,
-}
-
-// No two entries have the same handle: all pairs are compared.
-fn pairs_differ(es: Entries) -> bool
-    requires { ⌜ EntriesFit es ⌝ }
-    ensures { λ r. ⌜ r ≡ distinct (entriesOf es) ⌝ }
-{
-    let n = es.count;
-    let mut i: usize = 0;
-    while i < n {
-        let x = es.slots[i];
-        let mut j = i + 1;
-        while j < n {
-            let y = es.slots[j];
-            if y.handle == x.handle {
-                return false;
-            }
-            j += 1;
-        }
-        i += 1;
-    }
-    true
 }
 
 // One entry, linked or retired: its handle was given, it passes append's tests, and its local offset is one that it can have.
@@ -87,6 +66,41 @@ fn entries_seen(es: Entries, size: u32, last: u32) -> EntriesSeen
         ascend,
         linked,
     }
+}
+
+// No two entries have the same handle, by comparing all pairs.
+fn pairs_differ(es: Entries) -> bool
+    requires { ⌜ EntriesFit es ⌝ }
+    ensures { λ r. ⌜ r ≡ distinct (entriesOf es) ⌝ }
+{
+    let n = es.count;
+    let mut i: usize = 0;
+    while i < n {
+        let x = es.slots[i];
+        let mut j = i + 1;
+        while j < n {
+            let y = es.slots[j];
+            if y.handle == x.handle {
+                return false;
+            }
+            j += 1;
+        }
+        i += 1;
+    }
+    true
+}
+
+// No two entries have the same handle. All pairs are compared only where the handles do not ascend.
+fn handles_distinct(t: Target, seen: EntriesSeen) -> bool
+    requires { ⌜ TargetFits t ⌝ }
+    requires { ⌜ SeenIn (entriesOf (t .entries)) (t .size) (t .last) seen ⌝ }
+    ensures { λ r. ⌜ r ≡ distinct (entriesOf (t .entries)) ⌝ }
+{
+    if seen.ascend {
+        return true;
+    }
+    let es = t.entries;
+    pairs_differ(es)
 }
 
 // The message of a header waits in this entry: an overflow entry of its portal that takes headers and has its bytes in its region.
@@ -148,6 +162,19 @@ fn headers_held(es: Entries, us: Unexpected) -> bool
     true
 }
 
+// Every header is sound. Nothing is looked for where none waits.
+fn headers_sound(t: Target) -> bool
+    requires { ⌜ TargetFits t ⌝ }
+    ensures { λ r. ⌜ r ≡ every (headerSound (entriesOf (t .entries))) (headersOf (t .unexpected)) ⌝ }
+{
+    if t.unexpected.count == 0 {
+        return true;
+    }
+    let es = t.entries;
+    let us = t.unexpected;
+    headers_held(es, us)
+}
+
 // Every retired entry has a message waiting. The search begins where the last one's was found, and goes around.
 fn slots_waited(es: Entries, us: Unexpected) -> bool
     requires { ⌜ EntriesFit es ⌝ }
@@ -176,39 +203,6 @@ fn slots_waited(es: Entries, us: Unexpected) -> bool
     true
 }
 
-// The counts are within the sizes.
-fn counts_kept(t: Target) -> bool
-    ensures { λ r. ⌜ Tested countsKept t r ⌝ }
-{
-    (t.entries.count <= 64) & (t.unexpected.count <= 32) & (t.queue.count <= 64)
-}
-
-// No two entries have the same handle. Pairs are compared only where the handles do not ascend.
-fn handles_distinct(t: Target, seen: EntriesSeen) -> bool
-    requires { ⌜ TargetFits t ⌝ }
-    requires { ⌜ SeenIn (entriesOf (t .entries)) (t .size) (t .last) seen ⌝ }
-    ensures { λ r. ⌜ r ≡ distinct (entriesOf (t .entries)) ⌝ }
-{
-    if seen.ascend {
-        return true;
-    }
-    let es = t.entries;
-    pairs_differ(es)
-}
-
-// Every header is sound. Nothing is looked for where none waits.
-fn headers_sound(t: Target) -> bool
-    requires { ⌜ TargetFits t ⌝ }
-    ensures { λ r. ⌜ r ≡ every (headerSound (entriesOf (t .entries))) (headersOf (t .unexpected)) ⌝ }
-{
-    if t.unexpected.count == 0 {
-        return true;
-    }
-    let es = t.entries;
-    let us = t.unexpected;
-    headers_held(es, us)
-}
-
 // Every entry keeps its slot. Nothing is looked for where none is retired.
 fn slots_kept(t: Target, seen: EntriesSeen) -> bool
     requires { ⌜ TargetFits t ⌝ }
@@ -221,6 +215,13 @@ fn slots_kept(t: Target, seen: EntriesSeen) -> bool
     let es = t.entries;
     let us = t.unexpected;
     slots_waited(es, us)
+}
+
+// The counts are within the sizes.
+fn counts_kept(t: Target) -> bool
+    ensures { λ r. ⌜ Tested countsKept t r ⌝ }
+{
+    (t.entries.count <= 64) & (t.unexpected.count <= 32) & (t.queue.count <= 64)
 }
 
 // The state is sound.

@@ -1,4 +1,7 @@
+use mathlib.Core.Path.{ap, _∙_}
 use borrow.Author.Needs.{needs}
+use Rattle.state.specs.Counters.{increased}
+use Rattle.state.specs.declared.layout.Counter.{Counter}
 use Rattle.portals.proofs.AdmitLaws.{admits-for, counter-inside}
 use Rattle.portals.proofs.PartCalls.{increment-met}
 use Rattle.portals.proofs.counters.increment_counter.Statement.{statement}
@@ -35,8 +38,9 @@ returns c =
     let b = m .before in
     let a = b .before .before .args in
     increment-met (a .t) (n .counters-after .result) _ (a .x) (b .bad-unless .result) (m .admit .result)
-    (b .bad-unless .ensures) (m .admit .ensures) (c .confirmation-of .ensures)
-    (rw (← o .counter-at .ensures, ← i .increased-by .ensures) (n .counters-after .ensures))
+    (b .bad-unless .ensures) (m .admit .ensures) (c .confirmation-of .ensures) (i .increased-by .result)
+    (i .increased-by .ensures ∙ ap (λ (old : Counter). increased old (a .x .success) (a .x .failure)) (o .counter-at .ensures))
+    (n .counters-after .ensures)
 
 pub increment-counter-spec : {M : Type 1} → statement M
 increment-counter-spec = tie.close (tie.spec bad-unless-requires admit-requires counter-at-requires increased-by-requires counters-after-requires confirmation-of-requires returns)

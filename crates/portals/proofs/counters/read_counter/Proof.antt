@@ -21,8 +21,8 @@ returns c =
     let m = o .before in
     let b = m .before in
     let a = b .before .args in
-    read-counter-met (a .t) _ (a .k) (b .bad-unless .result) (m .admit .result) (m .admit .ensures) (b .bad-unless .ensures)
-    (rw (← o .counter-at .ensures) (c .counter-answer .ensures))
+    read-counter-met (a .t) _ (a .k) (b .bad-unless .result) (m .admit .result) (m .admit .ensures) (o .counter-at .result)
+    (b .bad-unless .ensures) (o .counter-at .ensures) (c .counter-answer .ensures)
 
 pub read-counter-spec : {M : Type 1} → statement M
 read-counter-spec = tie.close (tie.spec bad-unless-requires admit-requires counter-at-requires counter-answer-requires returns)

@@ -21,8 +21,8 @@ returns c =
     let m = o .before in
     let b = m .before in
     let a = b .before .args in
-    read-register-met (a .t) _ (a .k) (b .bad-unless .result) (m .admit .result) (m .admit .ensures) (b .bad-unless .ensures)
-    (rw (← o .register-at .ensures) (c .register-answer .ensures))
+    read-register-met (a .t) _ (a .k) (b .bad-unless .result) (m .admit .result) (m .admit .ensures) (o .register-at .result)
+    (b .bad-unless .ensures) (o .register-at .ensures) (c .register-answer .ensures)
 
 pub read-register-spec : {M : Type 1} → statement M
 read-register-spec = tie.close (tie.spec bad-unless-requires admit-requires register-at-requires register-answer-requires returns)
