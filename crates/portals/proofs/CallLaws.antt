@@ -22,6 +22,7 @@ use Rattle.state.specs.Events.{withoutOldest}
 use Rattle.state.specs.declared.layout.Settings.{Settings}
 use Rattle.state.specs.declared.layout.Header.{Header}
 use Rattle.state.specs.declared.layout.Event.{Event}
+use Rattle.state.specs.declared.layout.Counter.{Counter}
 use Rattle.state.specs.declared.layout.CounterChange.{CounterChange}
 use Rattle.state.proofs.ListLaws.{both, cond-cases}
 use Rattle.state.proofs.SoundLaws.{Sound, sound-facts, facts-sound}
@@ -30,14 +31,14 @@ use Rattle.portals.specs.Answers.{Answer, MADE, PRIORITY, OVERFLOW, isRe
 use Rattle.portals.specs.Outcome.{Outcome, refusal, guarded}
 use Rattle.portals.specs.Making.{notMade, badSetting, new}
 use Rattle.portals.specs.EventRead.{oldestOf, readEvent}
-use Rattle.portals.specs.CounterCalls.{counterTests, setCounter, increment}
+use Rattle.portals.specs.CounterCalls.{counterTests, setCounter, increment, counterDone}
 use Rattle.portals.specs.Request.{plan, decided, answerBy, requestState, requestTests, put, get}
 use Rattle.portals.specs.EarlyMessages.{Walk, appendBy, foundOnce, takenBy, appendTests, append, unlinkTests, unlink, lookedAt, deleted, walkFor, searched, searchTests, search}
 use Rattle.portals.specs.Calls.{Call, CallLaws, isAppend, Handles, linked, taken, refused, stateAfter, answerTo}
 use Rattle.portals.specs.Calls as calls
 use Rattle.portals.specs.declared.requests.Decision.{Decision}
 use Rattle.portals.specs.declared.requests.Decision.the-variants as Decision
-use Rattle.portals.proofs.GuardLaws.{guard-cases}
+use Rattle.portals.proofs.GuardLaws.{guard-cases, good-passed}
 use Rattle.portals.proofs.KeptLaws.{counters-kept, queue-kept}
 use Rattle.portals.proofs.RequestKept.{none-beyond, put-sound, get-sound}
 use Rattle.portals.proofs.EarlyKept.{append-sound, unlink-sound, search-sound}
@@ -50,15 +51,17 @@ read-event-sound v s =
     let n : length (v .queue .events) ≤ EVENTS = s .queued in
     queue-kept v (withoutOldest (v .queue)) s (simp length-drop (omega arith))
 
+counter-sound : (v : View) (k : ℕ) (c : Counter) → Sound v → Sound (guarded v tt (counterTests k) (counterDone v k c) .state)
+counter-sound v k c s =
+    guard-cases (λ o. Sound (o .state)) (refusal v tt) (counterTests k) (counterDone v k c) (λ r. s) (λ passed. counters-kept v _ s)
+
 pub set-sound : (v : View) (x : CounterChange) → Sound v → Sound (setCounter v x .state)
 unfolding setCounter
-set-sound v x s =
-    guard-cases (λ o. Sound (o .state)) (refusal v tt) (counterTests (x .counter)) _ (λ r. s) (λ passed. counters-kept v _ s)
+set-sound v x s = counter-sound v (x .counter) _ s
 
 pub increment-sound : (v : View) (x : CounterChange) → Sound v → Sound (increment v x .state)
 unfolding increment
-increment-sound v x s =
-    guard-cases (λ o. Sound (o .state)) (refusal v tt) (counterTests (x .counter)) _ (λ r. s) (λ passed. counters-kept v _ s)
+increment-sound v x s = counter-sound v (x .counter) _ s
 
 -- an empty target is sound if its size is
 empty-sound : (size : ℕ) → size ≤ MEMORY → Sound (emptyView size)
@@ -74,11 +77,7 @@ empty-sound size h = record {
 }
 
 setting-fits : (c : Settings) → noneBad (badSetting c) ≡ true → c .size ≤ MEMORY
-setting-fits c e = leb-true (c .size) MEMORY (by (leb (c .size) MEMORY) e)
-  where
-    by : (fits : Bool) → noneBad (cond fits BadArgument.None BadArgument.Size) ≡ true → fits ≡ true
-    by true e = refl
-    by false e = e
+setting-fits c e = leb-true (c .size) MEMORY (good-passed BadArgument.Size (leb (c .size) MEMORY) refl e)
 
 pub new-sound : (c : Settings) → Sound (new c .state)
 unfolding new

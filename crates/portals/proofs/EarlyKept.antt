@@ -14,8 +14,8 @@ use Rattle.matching.specs.EarlyMessages.{takesHeaders}
 use Rattle.matching.specs.declared.layout.Entry.{Entry}
 use Rattle.state.specs.Lists.{every, any, select, withoutFirst}
 use Rattle.state.specs.Sizes.{SLOTS, LAST-HANDLE}
-use Rattle.state.specs.View.{View, isLinked, withEntries, withHeaders}
-use Rattle.state.specs.Soundness.{hasHandle, names, entrySound, waitsIn, holds, bytesInside, headerSound, keepsSlot, isLinkedAs}
+use Rattle.state.specs.View.{View, isLinked, withEntries, withHeaders, hasHandle, isLinkedAs}
+use Rattle.state.specs.Soundness.{names, entrySound, waitsIn, holds, bytesInside, headerSound, keepsSlot}
 use Rattle.state.specs.Events.{linkEvent, searchEvent, postAll}
 use Rattle.state.specs.declared.layout.HeldEntry.{HeldEntry}
 use Rattle.state.specs.declared.layout.Header.{Header}

@@ -1,8 +1,10 @@
 -- The tests of a call: it is refused, or it passed them all.
-use mathlib.Core.Path.{_≡_, refl, ap, _∙_}
-use mathlib.Core.Bool.{true, cond}
+use mathlib.Core.Path.{_≡_, refl, ap, sym, _∙_}
+use mathlib.Core.Bool.{Bool, true, false, cond}
 use mathlib.Core.List.{List, [], _∷_}
+use Rattle.matching.specs.Refusals.{firstBad, noneBad}
 use Rattle.matching.specs.declared.refusals.Refusal.{Refusal}
+use Rattle.matching.specs.declared.refusals.BadArgument.{BadArgument}
 use Rattle.state.proofs.ListLaws.{cond-cases, cond-map}
 use Rattle.portals.specs.Refusals.{Condition, unlessRefused}
 
@@ -28,3 +30,11 @@ unless-map f refuse [] does = refl
 unless-map f refuse (c ∷ cs) does =
     cond-map f (c .passed) (unlessRefused refuse cs does) (refuse (c .refusal))
     ∙ ap (λ x. cond (c .passed) x (f (refuse (c .refusal)))) (unless-map f refuse cs does)
+
+-- a call whose one argument is tested, and is not bad, passed that test
+pub good-passed : (argument : BadArgument) (passed : Bool)
+    → noneBad argument ≡ false
+    → noneBad (firstBad (record { passed = passed; argument = argument } ∷ [])) ≡ true
+    → passed ≡ true
+good-passed argument true bad e = refl
+good-passed argument false bad e = sym bad ∙ e

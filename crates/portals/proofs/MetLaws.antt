@@ -11,7 +11,8 @@ use Rattle.state.specs.Parts.{TargetFits}
 use Rattle.state.specs.declared.layout.Target.{Target}
 use Rattle.state.proofs.ListLaws.{both, joined}
 use Rattle.state.proofs.SoundLaws.{Sound, sound-facts, facts-sound}
-use Rattle.portals.specs.Refusals.{Condition, unlessRefused, admissionIf, admission, byAdmission}
+use Rattle.portals.specs.Refusals.{Condition, unlessRefused}
+use Rattle.portals.specs.Admission.{admissionIf, admission, byAdmission}
 use Rattle.portals.specs.Answers.{Answer, refused, isRefused}
 use Rattle.portals.specs.Outcome.{Outcome, refusal, guarded, guardedRead, readUnlessUnsound}
 use Rattle.portals.specs.Promises.{Met, ReadMet}

@@ -1,17 +1,21 @@
 -- The calls that touch no list: each keeps its promise where it was admitted as its tests say, answers by that, and leaves the one
 -- part that it may change as that says.
 use mathlib.Core.Path.{_≡_, refl, ap, sym, _∙_, subst}
-use mathlib.Core.Bool.{true}
+use mathlib.Core.Bool.{Bool, true, false, _&&_, cond}
 use mathlib.Core.List.{List, [], _∷_}
 use Prim.Native.Nat.{ℕ}
-use borrow.Author.Tests.{le-leb}
+use native.Mathlib.Omega.{arith}
+use borrow.Author.Tests.{ltb-false}
+use lib.Dec.{ltb}
 use lib.ListN.{set}
 use Rattle.matching.specs.declared.refusals.BadArgument.{BadArgument}
 use Rattle.matching.specs.declared.refusals.BadArgument.the-variants as BadArgument
-use Rattle.state.specs.View.{View, queueOf, viewOf, newTarget, emptyView, withQueue, withCounters}
+use Rattle.state.specs.View.{View, queueOf, viewOf, emptyTarget, emptyView, withQueue, withCounters}
 use Rattle.state.specs.Soundness.{soundView, sound, seen}
-use Rattle.state.specs.Counters.{counterAt, increased, registerAt}
-use Rattle.state.specs.Parts.{TargetFits}
+use Rattle.state.specs.Counters.{counterAt, increased}
+use Rattle.state.specs.Registers.{registerAt}
+use Rattle.state.specs.Events.{withoutOldest}
+use Rattle.state.specs.Parts.{QueueFits, QueueHolds, Popped, TargetFits}
 use Rattle.state.specs.declared.layout.Settings.{Settings}
 use Rattle.state.specs.declared.layout.Queue.{Queue}
 use Rattle.state.specs.declared.layout.Counter.{Counter}
@@ -19,13 +23,13 @@ use Rattle.state.specs.declared.layout.Counters.{Counters}
 use Rattle.state.specs.declared.layout.CounterChange.{CounterChange}
 use Rattle.state.specs.declared.layout.Target.{Target}
 use Rattle.state.proofs.SoundLaws.{Sound, facts-sound}
-use Rattle.portals.specs.Refusals.{goodArguments, unlessRefused, byAdmission}
+use Rattle.portals.specs.Refusals.{goodArguments, unlessRefused}
+use Rattle.portals.specs.Admission.{byAdmission, isAdmitted, Admits}
 use Rattle.portals.specs.Answers.{Answer, MADE, DONE, COUNTER, REGISTER, refused, newAnswer}
 use Rattle.portals.specs.Outcome.{Outcome, guarded}
 use Rattle.portals.specs.Making.{badSetting, notMade, new}
 use Rattle.portals.specs.EventRead.{oldestOf, eventTaken, readEvent}
 use Rattle.portals.specs.CounterCalls.{badCounterArgument, counterTests, counterDone, setCounter, increment, readCounter, badRegisterArgument, readRegister}
-use Rattle.portals.specs.Steps.{QueueRead, Admits}
 use Rattle.portals.specs.Promises.{Met, ReadMet, NewMet}
 use Rattle.portals.specs.declared.answers.NewDone.{NewDone}
 use Rattle.portals.specs.declared.admission.Admission.{Admission}
@@ -54,7 +58,7 @@ module _ (t : Target) (counters : Counters) (answer : Answer) (x : CounterChange
   counters-ending : (c : Counter) (b : Admission)
       → (b ≡ Admission.Admitted → TargetFits t)
       → answer ≡ byAdmission refused DONE b
-      → counters .slots ≡ byAdmission (λ r. t .counters .slots) (set (t .counters .slots) (x .counter) c) b
+      → counters .slots ≡ cond (isAdmitted b) (set (t .counters .slots) (x .counter) c) (t .counters .slots)
       → Ending (counterDone (viewOf t) (x .counter) c) t tt (countersLeft t counters) tt answer b
   counters-ending c Admission.Admitted fits e f = record {
     answers = e;
@@ -73,7 +77,7 @@ module _ (t : Target) (counters : Counters) (answer : Answer) (x : CounterChange
   counter-met : (call : View → Outcome View Unit) (c : View → Counter)
       → ((v : View) → call v ≡ guarded v tt (counterTests (x .counter)) (counterDone v (x .counter) (c v)))
       → ((v : View) → Sound v → Sound (call v .state))
-      → counters .slots ≡ byAdmission (λ r. t .counters .slots) (set (t .counters .slots) (x .counter) (c (viewOf t))) a
+      → counters .slots ≡ cond (isAdmitted a) (set (t .counters .slots) (x .counter) (c (viewOf t))) (t .counters .slots)
       → Met call t tt answer (countersLeft t counters) tt
   counter-met call c is kept e =
       met call (λ v. counterDone v (x .counter) (c v)) (λ v. counterTests (x .counter)) tt is kept t (countersLeft t counters) tt answer a
@@ -81,21 +85,22 @@ module _ (t : Target) (counters : Counters) (answer : Answer) (x : CounterChange
       (counters-ending (c (viewOf t)) a (admits .fits) answers e)
 
   pub set-met : counters .slots
-      ≡ byAdmission (λ r. t .counters .slots)
-      (set (t .counters .slots) (x .counter) (record { success = x .success; failure = x .failure })) a
+      ≡ cond (isAdmitted a)
+      (set (t .counters .slots) (x .counter) (record { success = x .success; failure = x .failure }))
+      (t .counters .slots)
       → Met (λ v. setCounter v x) t tt answer (countersLeft t counters) tt
   unfolding setCounter
   set-met e = counter-met (λ v. setCounter v x) (λ v. record { success = x .success; failure = x .failure }) (λ v. refl) (λ v. set-sound v x) e
 
   pub increment-met : (c : Counter)
       → c ≡ increased (counterAt (t .counters .slots) (x .counter)) (x .success) (x .failure)
-      → counters .slots ≡ byAdmission (λ r. t .counters .slots) (set (t .counters .slots) (x .counter) c) a
+      → counters .slots ≡ cond (isAdmitted a) (set (t .counters .slots) (x .counter) c) (t .counters .slots)
       → Met (λ v. increment v x) t tt answer (countersLeft t counters) tt
   unfolding increment
   increment-met c is e =
       counter-met (λ v. increment v x) (λ v. increased (counterAt (v .counters) (x .counter)) (x .success) (x .failure)) (λ v. refl)
       (λ v. increment-sound v x)
-      (e ∙ ap (λ (n : Counter). byAdmission (λ r. t .counters .slots) (set (t .counters .slots) (x .counter) n) a) is)
+      (e ∙ ap (λ (n : Counter). cond (isAdmitted a) (set (t .counters .slots) (x .counter) n) (t .counters .slots)) is)
 
 -- ## The calls that only read
 
@@ -137,36 +142,45 @@ queueLeft t queue = record {
   registers = t .registers;
 }
 
+-- what is left: without the oldest event if there is one, else nothing changes
+taken-holds : (q q′ : Queue) (some : Bool) → ltb 0 (q .count) ≡ some → Popped q some q′ → QueueFits q → QueueHolds q′ (withoutOldest (queueOf q))
+taken-holds q q′ true e p f = p .taken refl f
+taken-holds q q′ false e p f =
+    let n : q .count ≡ 0 = omega (arith, ltb-false 0 (q .count) e) in
+    record { held = rw (p .kept refl, n); fits = rw (p .kept refl) f }
+
 queue-ending : (t : Target) (queue : Queue) (answer : Answer) (a : Admission)
     → (a ≡ Admission.Admitted → TargetFits t)
     → answer ≡ byAdmission refused (oldestOf (queueOf (t .queue) .events)) a
-    → QueueRead a (t .queue) queue
+    → Popped (t .queue) (isAdmitted a && ltb 0 (t .queue .count)) queue
     → Ending (eventTaken (viewOf t)) t tt (queueLeft t queue) tt answer a
-queue-ending t queue answer Admission.Admitted fits e q =
+queue-ending t queue answer Admission.Admitted fits e p =
     let f = fits refl in
-    let h = q .read refl in
+    let h = taken-holds (t .queue) queue (ltb 0 (t .queue .count)) refl p (f .queue) in
     record {
       answers = e;
       granted = oldest-answers (queueOf (t .queue) .events);
       state = ap (withQueue (viewOf t)) (h .held);
       buffer = refl;
-      counts = rw (le-leb _ _ (f .entries .room), le-leb _ _ (f .unexpected .room), le-leb _ _ (h .fits .room));
+      counts = fits-counts (queueLeft t queue) (record { entries = f .entries; unexpected = f .unexpected; queue = h .fits });
     }
-queue-ending t queue answer (Admission.Refused r) fits e q = record {
+queue-ending t queue answer (Admission.Refused r) fits e p = record {
   answers = e;
-  state = ap (queueLeft t) (q .kept r refl);
+  state = ap (queueLeft t) (p .kept refl);
   buffer = refl;
 }
 
-pub read-event-met : (t : Target) (queue : Queue) (answer : Answer) (a : Admission)
+pub read-event-met : (t : Target) (queue : Queue) (answer : Answer) (a : Admission) (takes : Bool)
     → Admits (λ v. goodArguments BadArgument.None ∷ []) t a
     → answer ≡ byAdmission refused (oldestOf (queueOf (t .queue) .events)) a
-    → QueueRead a (t .queue) queue
+    → takes ≡ (isAdmitted a && ltb 0 (t .queue .count))
+    → Popped (t .queue) takes queue
     → Met readEvent t tt answer (queueLeft t queue) tt
 unfolding readEvent
-read-event-met t queue answer a admits e q =
+read-event-met t queue answer a takes admits e is p =
     met readEvent eventTaken (λ v. goodArguments BadArgument.None ∷ []) tt (λ v. refl) read-event-sound t (queueLeft t queue) tt answer a
-    (admits .answer) (queue-ending t queue answer a (admits .fits) e q)
+    (admits .answer)
+    (queue-ending t queue answer a (admits .fits) e (subst (λ (b : Bool). Popped (t .queue) b queue) is p))
 
 -- ## A new target
 
@@ -184,7 +198,7 @@ pub new-met : (s : Settings) (r : NewDone) (found : BadArgument) (size : ℕ)
     → found ≡ badSetting s
     → newAnswer (r .answer) ≡ unlessRefused refused (goodArguments found ∷ []) MADE
     → size ≡ unlessRefused (λ r. 0) (goodArguments found ∷ []) (s .size)
-    → r .target ≡ newTarget size
+    → r .target ≡ emptyTarget size
     → NewMet s r
 unfolding new
 new-met s r found size is-bad answers is-size made =
@@ -192,13 +206,13 @@ new-met s r found size is-bad answers is-size made =
     let tests = goodArguments (badSetting s) ∷ [] in
     let e : size ≡ new s .state .size =
     is-size ∙ rw is-bad (sym (unless-map (λ (o : Outcome View Unit). o .state .size) notMade tests does)) in
-    let target : r .target ≡ newTarget (new s .state .size) = made ∙ ap newTarget e in
+    let target : r .target ≡ emptyTarget (new s .state .size) = made ∙ ap emptyTarget e in
     let empty : soundView (emptyView (new s .state .size)) ≡ true = subst (λ (v : View). soundView v ≡ true) (new-empty s) (facts-sound (new s .state) (new-sound s)) in
     record {
       answer = answers ∙ rw is-bad (sym (unless-map (λ (o : Outcome View Unit). o .answer) notMade tests does));
       target = target;
       state =
           ap seen target
-          ∙ seen-sound (newTarget (new s .state .size)) (sound-joined (newTarget (new s .state .size)) refl empty)
+          ∙ seen-sound (emptyTarget (new s .state .size)) (sound-joined (emptyTarget (new s .state .size)) refl empty)
           ∙ ap sound (sym (new-empty s));
     }

@@ -8,8 +8,8 @@ use Rattle.portals.specs.declared.answers.NewAnswer.{NewAnswer}
 use Rattle.portals.specs.declared.answers.NewAnswer.the-variants as New
 use Rattle.portals.specs.declared.answers.AppendAnswer.{AppendAnswer}
 use Rattle.portals.specs.declared.answers.AppendAnswer.the-variants as Append
-use Rattle.portals.specs.declared.answers.Confirmation.{Confirmation}
-use Rattle.portals.specs.declared.answers.Confirmation.the-variants as Confirm
+use Rattle.portals.specs.declared.answers.PlainAnswer.{PlainAnswer}
+use Rattle.portals.specs.declared.answers.PlainAnswer.the-variants as Plain
 use Rattle.portals.specs.declared.answers.SearchAnswer.{SearchAnswer}
 use Rattle.portals.specs.declared.answers.SearchAnswer.the-variants as Search
 use Rattle.portals.specs.declared.answers.RequestAnswer.{RequestAnswer}
@@ -90,9 +90,9 @@ appendAnswer (Append.Linked h) = LINKED h
 appendAnswer Append.Taken = TAKEN
 appendAnswer (Append.Refused r) = refused r
 
-abbrev pub confirmation : Confirmation → Answer
-confirmation Confirm.Done = DONE
-confirmation (Confirm.Refused r) = refused r
+abbrev pub plainAnswer : PlainAnswer → Answer
+plainAnswer Plain.Done = DONE
+plainAnswer (Plain.Refused r) = refused r
 
 abbrev pub searchAnswer : SearchAnswer → Answer
 searchAnswer (Search.Searched n) = SEARCHED n

@@ -9,7 +9,8 @@ use Rattle.matching.specs.Refusals.{firstBad}
 use Rattle.matching.specs.Entry.{isCounter}
 use Rattle.matching.specs.declared.refusals.BadArgument.{BadArgument}
 use Rattle.matching.specs.declared.refusals.BadArgument.the-variants as BadArgument
-use Rattle.state.specs.Counters.{counterAt, increased, registerAt}
+use Rattle.state.specs.Counters.{counterAt, increased}
+use Rattle.state.specs.Registers.{registerAt}
 use Rattle.state.specs.Lists.{every}
 use Rattle.state.specs.View.{View, withCounters}
 use Rattle.state.specs.declared.layout.Counter.{Counter}

@@ -18,8 +18,8 @@ use Rattle.matching.specs.declared.refusals.BadArgument.the-variants as BadArgu
 use Rattle.state.specs.Lists.{any, select, selectNot, firstOnly, withoutFirst, isEmpty, sumOf}
 use Rattle.state.specs.Sizes.{SLOTS, LAST-HANDLE}
 use Rattle.state.specs.Kinds.{kindOf}
-use Rattle.state.specs.View.{View, isRetired, withLast, withEntries, withHeaders, withQueue, withCounters}
-use Rattle.state.specs.Soundness.{names, waitsIn, keepsSlot, isLinkedAs}
+use Rattle.state.specs.View.{View, isRetired, withLast, withEntries, withHeaders, withQueue, withCounters, isLinkedAs}
+use Rattle.state.specs.Soundness.{names, waitsIn, keepsSlot}
 use Rattle.state.specs.Events.{Issued, linkEvent, overflowEvent, autoFreeEvent, searchEvent, noMatchEvent, post, postAll}
 use Rattle.state.specs.Counters.{counted}
 use Rattle.state.specs.declared.layout.HeldEntry.{HeldEntry}

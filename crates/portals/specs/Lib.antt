@@ -1,4 +1,5 @@
 pub mod Refusals
+pub mod Admission
 pub mod Answers
 pub mod Outcome
 pub mod Making
@@ -6,7 +7,6 @@ pub mod EventRead
 pub mod CounterCalls
 pub mod Request
 pub mod EarlyMessages
-pub mod Steps
 pub mod Promises
 pub mod Calls
 pub mod BenchCases

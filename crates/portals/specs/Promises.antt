@@ -5,13 +5,13 @@ use mathlib.Core.List.{List}
 use Prim.Native.Nat.{ℕ}
 use Rattle.matching.specs.declared.layout.Entry.{Entry}
 use Rattle.matching.specs.declared.layout.Request.{Request}
-use Rattle.state.specs.View.{View, newTarget}
+use Rattle.state.specs.View.{View, emptyTarget}
 use Rattle.state.specs.Soundness.{Seen, sound, seen}
 use Rattle.state.specs.declared.layout.Settings.{Settings}
 use Rattle.state.specs.declared.layout.CounterChange.{CounterChange}
 use Rattle.state.specs.declared.layout.CounterTest.{CounterTest}
 use Rattle.state.specs.declared.layout.Target.{Target}
-use Rattle.portals.specs.Answers.{Answer, isRefused, newAnswer, appendAnswer, confirmation, searchAnswer, requestAnswer, eventAnswer, counterAnswer, registerAnswer, readyAnswer, pollAnswer}
+use Rattle.portals.specs.Answers.{Answer, isRefused, newAnswer, appendAnswer, plainAnswer, searchAnswer, requestAnswer, eventAnswer, counterAnswer, registerAnswer, readyAnswer, pollAnswer}
 use Rattle.portals.specs.Outcome.{Outcome, unlessUnsound, readUnlessUnsound}
 use Rattle.portals.specs.Making.{new}
 use Rattle.portals.specs.EventRead.{readEvent}
@@ -20,7 +20,7 @@ use Rattle.portals.specs.Request.{put, get}
 use Rattle.portals.specs.EarlyMessages.{append, unlink, search}
 use Rattle.portals.specs.declared.answers.NewDone.{NewDone}
 use Rattle.portals.specs.declared.answers.AppendDone.{AppendDone}
-use Rattle.portals.specs.declared.answers.Confirmed.{Confirmed}
+use Rattle.portals.specs.declared.answers.PlainDone.{PlainDone}
 use Rattle.portals.specs.declared.answers.SearchDone.{SearchDone}
 use Rattle.portals.specs.declared.answers.RequestDone.{RequestDone}
 use Rattle.portals.specs.declared.answers.EventDone.{EventDone}
@@ -40,10 +40,10 @@ pub record Met {B : Type 0} (call : View → Outcome View B) (t : Target) (lent 
 pub record ReadMet (call : View → Answer) (t : Target) (answer : Answer) : Type 0 where
   pub outcome : answer ≡ readUnlessUnsound call (seen t)
 
--- Making a target: there is no state before it. What it makes is `newTarget` in every bit, and sound, also beside a refusal.
+-- Making a target: there is no state before it. What it makes is `emptyTarget` in every bit, and sound, also beside a refusal.
 pub record NewMet (s : Settings) (r : NewDone) : Type 0 where
   pub answer : newAnswer (r .answer) ≡ new s .answer
-  pub target : r .target ≡ newTarget (new s .state .size)
+  pub target : r .target ≡ emptyTarget (new s .state .size)
   pub state : seen (r .target) ≡ sound (new s .state)
 
 -- ## One for each call
@@ -51,8 +51,8 @@ pub record NewMet (s : Settings) (r : NewDone) : Type 0 where
 abbrev pub AppendMet : Target → Entry → AppendDone → Type 0
 AppendMet t e r = Met (λ v. append v e) t tt (appendAnswer (r .answer)) (r .target) tt
 
-abbrev pub UnlinkMet : Target → ℕ → Confirmed → Type 0
-UnlinkMet t handle r = Met (λ v. unlink v handle) t tt (confirmation (r .answer)) (r .target) tt
+abbrev pub UnlinkMet : Target → ℕ → PlainDone → Type 0
+UnlinkMet t handle r = Met (λ v. unlink v handle) t tt (plainAnswer (r .answer)) (r .target) tt
 
 abbrev pub SearchMet : Target → Entry → SearchDone → Type 0
 SearchMet t e r = Met (λ v. search v e) t tt (searchAnswer (r .answer)) (r .target) tt
@@ -70,11 +70,11 @@ GetMet t memory q reply r reply′ =
 abbrev pub ReadEventMet : Target → EventDone → Type 0
 ReadEventMet t r = Met readEvent t tt (eventAnswer (r .answer)) (r .target) tt
 
-abbrev pub SetCounterMet : Target → CounterChange → Confirmed → Type 0
-SetCounterMet t x r = Met (λ v. setCounter v x) t tt (confirmation (r .answer)) (r .target) tt
+abbrev pub SetCounterMet : Target → CounterChange → PlainDone → Type 0
+SetCounterMet t x r = Met (λ v. setCounter v x) t tt (plainAnswer (r .answer)) (r .target) tt
 
-abbrev pub IncrementMet : Target → CounterChange → Confirmed → Type 0
-IncrementMet t x r = Met (λ v. increment v x) t tt (confirmation (r .answer)) (r .target) tt
+abbrev pub IncrementMet : Target → CounterChange → PlainDone → Type 0
+IncrementMet t x r = Met (λ v. increment v x) t tt (plainAnswer (r .answer)) (r .target) tt
 
 abbrev pub ReadCounterMet : Target → ℕ → CounterAnswer → Type 0
 ReadCounterMet t k r = ReadMet (λ v. readCounter v k) t (counterAnswer r)

@@ -22,7 +22,8 @@ use Rattle.state.specs.Sizes.{HEADERS}
 use Rattle.state.specs.Kinds.{kindNumber}
 use Rattle.state.specs.View.{View, isLinked, zeroEntry, withEntries, withHeaders, withQueue, withCounters, withRegisters}
 use Rattle.state.specs.Events.{Issued, arrivalEvent, autoUnlinkEvent, postAll}
-use Rattle.state.specs.Counters.{counted, oneDropped, onePermission, oneOperation}
+use Rattle.state.specs.Counters.{counted}
+use Rattle.state.specs.Registers.{requestDropped, permissionViolated, operationViolated}
 use Rattle.state.specs.declared.layout.HeldEntry.{HeldEntry}
 use Rattle.state.specs.declared.layout.Header.{Header}
 use Rattle.state.specs.declared.layout.Counter.{Counter}
@@ -179,9 +180,9 @@ deliveryAnswer kind ack p =
 
 abbrev pub requestState : View → ℕ → Arrival → Decision → View
 requestState v portal a (Decision.Deliver k) = delivered v (plan (v .entries) portal a k)
-requestState v portal a Decision.Drop = withRegisters v (oneDropped (v .registers))
-requestState v portal a Decision.DenyPermission = withRegisters v (onePermission (v .registers))
-requestState v portal a Decision.DenyOperation = withRegisters v (oneOperation (v .registers))
+requestState v portal a Decision.Drop = withRegisters v (requestDropped (v .registers))
+requestState v portal a Decision.DenyPermission = withRegisters v (permissionViolated (v .registers))
+requestState v portal a Decision.DenyOperation = withRegisters v (operationViolated (v .registers))
 
 -- "or DROPPED, PERM, OP with the ack asked"
 abbrev pub answerBy : View → ℕ → Arrival → ℕ → Decision → Answer

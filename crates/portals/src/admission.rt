@@ -8,7 +8,7 @@ ghost use mathlib.Core.Path.{_≡_};
 ghost use mathlib.Core.List.{_∷_, []};
 ghost use Rattle.matching.specs.Refusals.{firstBad};
 ghost use Rattle.portals.specs.Refusals.{goodArguments};
-ghost use Rattle.portals.specs.Steps.{Admits};
+ghost use Rattle.portals.specs.Admission.{isAdmitted, Admits};
 
 pub enum Admission {
     Admitted,
@@ -23,7 +23,7 @@ pub fn bad_unless(passed: bool, argument: BadArgument) -> BadArgument
     if passed { BadArgument::None } else { argument }
 }
 
-// A call of which only the state and the arguments are tested: with its first bad argument, or none.
+// Admits a call that tests only its state and its arguments; `bad` is its first bad argument, or none.
 pub fn admit(t: Target, bad: BadArgument) -> Admission
     ensures { λ r. ⌜ Admits (λ v. goodArguments bad ∷ []) t r ⌝ }
 {
@@ -34,4 +34,13 @@ pub fn admit(t: Target, bad: BadArgument) -> Admission
         return Admission::Refused(Refusal::ArgInvalid);
     }
     Admission::Admitted
+}
+
+pub fn is_admitted(a: Admission) -> bool
+    ensures { λ r. ⌜ r ≡ isAdmitted a ⌝ }
+{
+    match a {
+        Admission::Admitted => true,
+        Admission::Refused(refusal) => false,
+    }
 }

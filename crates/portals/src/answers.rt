@@ -27,13 +27,13 @@ pub struct AppendDone {
 }
 
 // Unlink, counter set and counter increment.
-pub enum Confirmation {
+pub enum PlainAnswer {
     Done,
     Refused(Refusal),
 }
 
-pub struct Confirmed {
-    pub answer: Confirmation,
+pub struct PlainDone {
+    pub answer: PlainAnswer,
     pub target: Target,
 }
 

@@ -1,4 +1,4 @@
-// Document 01's target state: what a target holds, when it is sound, and what every call on it answers and leaves.
+// The calls on a target: what each answers and leaves.
 pub mod admission;
 pub mod answers;
 pub mod bench;

@@ -19,7 +19,7 @@ use state::layout::Target;
 use state::layout::Unexpected;
 ghost use mathlib.Core.Path.{_≡_};
 ghost use mathlib.Core.List.{_∷_, []};
-ghost use Rattle.state.specs.View.{zeroEntry, zeroHeader, zeroEvent, newTarget};
+ghost use Rattle.state.specs.View.{zeroEntry, zeroHeader, zeroEvent, emptyTarget};
 ghost use Rattle.portals.specs.Refusals.{goodArguments, unlessRefused};
 ghost use Rattle.portals.specs.Answers.{MADE, refused, newAnswer};
 ghost use Rattle.portals.specs.Promises.{NewMet};
@@ -93,7 +93,7 @@ fn zero_event() -> Event
 
 // An empty target, all numbers 0.
 fn empty_target(size: u32) -> Target
-    ensures { λ r. ⌜ r ≡ newTarget size ⌝ }
+    ensures { λ r. ⌜ r ≡ emptyTarget size ⌝ }
 {
     let entry = zero_entry();
     let header = zero_header();
@@ -151,7 +151,7 @@ fn setting_size(s: Settings, bad: BadArgument) -> u32
 }
 
 // A new target; beside a refusal, one of size 0.
-pub fn new_target(s: Settings) -> NewDone
+pub fn new(s: Settings) -> NewDone
     ensures { λ r. ⌜ NewMet s r ⌝ }
 {
     let bad = admission::bad_unless(s.size <= 65536, BadArgument::Size);

@@ -6,12 +6,12 @@ use matching::refusals::BadArgument;
 use state::layout::Target;
 use state::registers;
 ghost use mathlib.Core.Path.{_≡_};
-ghost use Rattle.portals.specs.Refusals.{byAdmission};
+ghost use Rattle.portals.specs.Admission.{byAdmission};
 ghost use Rattle.portals.specs.Answers.{REGISTER, refused, registerAnswer};
 ghost use Rattle.portals.specs.Promises.{ReadRegisterMet};
 
 // What a register read answers.
-fn register_answer(a: Admission, value: u64) -> RegisterAnswer
+fn answer_register(a: Admission, value: u64) -> RegisterAnswer
     ensures { λ r. ⌜ registerAnswer r ≡ byAdmission refused (REGISTER value) a ⌝ }
 {
     match a {
@@ -27,5 +27,5 @@ pub fn read_register(t: Target, k: u64) -> RegisterAnswer
     let bad = admission::bad_unless(k <= 2, BadArgument::Register);
     let a = admission::admit(t, bad);
     let value = registers::register_at(t.registers, k);
-    register_answer(a, value)
+    answer_register(a, value)
 }

@@ -10,17 +10,13 @@ use borrow.Author.Tests.{eqb-true, eqb-false}
 use lib.Dec.{eqb}
 use lib.ListN.{length, take, drop, getD, length-drop, take-append-drop}
 use lib.Seq.{take-append-add, getD-take}
-use Rattle.state.specs.Lists.{any, ringOf}
+use Rattle.state.specs.Lists.{any, ringOf, nextPlace}
 use Rattle.state.specs.Parts.{Fits}
 use Rattle.state.proofs.SlotLaws.{in-use}
 use Rattle.state.proofs.RingLaws.{pop}
 
--- the place after one of `count` places
-abbrev pub after : ℕ → ℕ → ℕ
-after k count = cond (eqb (k + 1) count) 0 (k + 1)
-
-after-cases : (k count : ℕ) → k < count → ((after k count ≡ suc k) × (suc k < count)) ⊎ ((after k count ≡ 0) × (suc k ≡ count))
-after-cases k count h = by (eqb (k + 1) count) refl
+next-cases : (k count : ℕ) → k < count → ((nextPlace k count ≡ suc k) × (suc k < count)) ⊎ ((nextPlace k count ≡ 0) × (suc k ≡ count))
+next-cases k count h = by (eqb (k + 1) count) refl
   where
     by : (last : Bool) → eqb (k + 1) count ≡ last → ((cond last 0 (k + 1) ≡ suc k) × (suc k < count)) ⊎ ((cond last 0 (k + 1) ≡ 0) × (suc k ≡ count))
     by true e = let m : k + 1 ≡ count = eqb-true (k + 1) count e in inr (refl, omega arith)
@@ -67,15 +63,15 @@ module _ {A : Type 0} (p : A → Bool) where
     around-turn : (left : ℕ) (d : A)
         → Around size count slots k left
         → 0 < left
-        → any p (take count slots) ≡ (p (getD slots k d) || any p (ringOf (after k count) (left - 1) (take count slots)))
+        → any p (take count slots) ≡ (p (getD slots k d) || any p (ringOf (nextPlace k count) (left - 1) (take count slots)))
     around-turn left d a h =
         let n : length (take count slots) ≡ count = in-use (a .fits) in
         let place : k ≤ count - 1 = a .place in
         let most : left ≤ count = a .most in
         let more : left ≡ suc (left - 1) = omega arith in
-        let e : ringOf k left (take count slots) ≡ getD (take count slots) k d ∷ ringOf (after k count) (left - 1) (take count slots) =
+        let e : ringOf k left (take count slots) ≡ getD (take count slots) k d ∷ ringOf (nextPlace k count) (left - 1) (take count slots) =
         ap (λ (m : ℕ). ringOf k m (take count slots)) more
-        ∙ pop (take count slots) k (left - 1) (after k count) d (omega arith) (omega arith) (rw n (after-cases k count (omega arith))) in
+        ∙ pop (take count slots) k (left - 1) (nextPlace k count) d (omega arith) (omega arith) (rw n (next-cases k count (omega arith))) in
         a .rest ∙ ap (any p) e ∙ rw (getD-take count slots k d (omega arith))
 
     -- the one there does not pass
@@ -83,13 +79,13 @@ module _ {A : Type 0} (p : A → Bool) where
         → Around size count slots k left
         → 0 < left
         → p (getD slots k d) ≡ false
-        → Around size count slots (after k count) (left - 1)
+        → Around size count slots (nextPlace k count) (left - 1)
     around-more left d a h e =
         let place : k ≤ count - 1 = a .place in
         let most : left ≤ count = a .most in
         record {
           fits = a .fits;
-          place = ⊎-elim (λ c. omega arith) (λ c. omega arith) (after-cases k count (omega arith));
+          place = ⊎-elim (λ c. omega arith) (λ c. omega arith) (next-cases k count (omega arith));
           most = omega arith;
           rest = around-turn left d a h ∙ rw e;
         }

@@ -8,8 +8,8 @@ use borrow.Author.Tests.{ltb-true, ne-eqb}
 use lib.Dec.{ltb}
 use lib.ListN.{drop, getD}
 use Rattle.state.specs.Lists.{any}
-use Rattle.state.specs.View.{entriesOf}
-use Rattle.state.specs.Soundness.{hasHandle, distinct}
+use Rattle.state.specs.View.{entriesOf, hasHandle}
+use Rattle.state.specs.Soundness.{distinct}
 use Rattle.state.specs.Parts.{EntriesFit}
 use Rattle.state.specs.declared.layout.HeldEntry.{HeldEntry}
 use Rattle.state.specs.declared.layout.Entries.{Entries}

@@ -119,10 +119,10 @@ module _ {A : Type 0} {size : ℕ} (l : List A) (head n : ℕ) (f : Fits size l 
       (rw long (wrapped size (head % size + n) (omega arith) (omega arith)))
 
   -- the first element, and the ring that begins after it
-  pub popped : (d : A)
+  pub first-out : (d : A)
       → 0 < n
       → ringOf (head % size) n l ≡ getD l (head % size) d ∷ ringOf ((head % size + 1) % size % size) (n - 1) l
-  popped d h =
+  first-out d h =
       let room : n ≤ size = f .room in
       let long : length l ≡ size = f .long in
       let some : 0 < size = omega arith in

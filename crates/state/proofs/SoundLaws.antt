@@ -11,8 +11,8 @@ use Rattle.matching.specs.Refusals.{noneBad}
 use Rattle.matching.specs.Entry.{badEntryArgument}
 use Rattle.state.specs.Lists.{every, any}
 use Rattle.state.specs.Sizes.{MEMORY, SLOTS, HEADERS, EVENTS}
-use Rattle.state.specs.View.{View, entriesOf, headersOf, viewOf}
-use Rattle.state.specs.Soundness.{sizesKept, hasHandle, distinct, handleGiven, localKept, entrySound, waitsIn, holds, lengthsKept, headerSound, keepsSlot, soundView, countsKept, isSound}
+use Rattle.state.specs.View.{View, entriesOf, headersOf, viewOf, hasHandle}
+use Rattle.state.specs.Soundness.{sizesKept, distinct, handleGiven, localKept, entrySound, waitsIn, holds, lengthsKept, headerSound, keepsSlot, soundView, countsKept, isSound}
 use Rattle.state.specs.declared.layout.HeldEntry.{HeldEntry}
 use Rattle.state.specs.declared.layout.Header.{Header}
 use Rattle.state.specs.declared.layout.Target.{Target}

@@ -1,23 +1,23 @@
--- The parts of a target's state as its functions hold them: arrays with a count of the slots in use. What the functions of the
--- parts ask for and keep.
+-- The parts of a target's state: arrays with a count of the slots in use. What the functions of a part require and ensure.
 use mathlib.Core.Path.{_≡_}
-use mathlib.Core.Bool.{Bool, true}
+use mathlib.Core.Bool.{Bool, true, false}
 use mathlib.Core.List.{List}
 use Prim.Native.Nat.{ℕ, _≤_}
 use lib.ListN.{length, take}
-use Rattle.state.specs.Sizes.{SLOTS, HEADERS, EVENTS, COUNTERS}
+use Rattle.state.specs.Sizes.{SLOTS, HEADERS, EVENTS}
 use Rattle.state.specs.Lists.{every}
 use Rattle.state.specs.View.{EventQueue, isLinked, queueOf}
 use Rattle.state.specs.Soundness.{distinct, entrySound}
+use Rattle.state.specs.Events.{withoutOldest}
 use Rattle.state.specs.declared.layout.HeldEntry.{HeldEntry}
 use Rattle.state.specs.declared.layout.Entries.{Entries}
 use Rattle.state.specs.declared.layout.Header.{Header}
 use Rattle.state.specs.declared.layout.Unexpected.{Unexpected}
 use Rattle.state.specs.declared.layout.Queue.{Queue}
 use Rattle.state.specs.declared.layout.Target.{Target}
-use Rattle.state.specs.declared.soundness.EntriesSeen.{EntriesSeen}
+use Rattle.state.specs.declared.soundness.EntriesScan.{EntriesScan}
 
--- an array of `size` slots of which the count is in use
+-- an array of `size` slots, of which the first `count` are in use
 pub record Fits {A : Type 0} (size : ℕ) (slots : List A) (count : ℕ) : Type 0 where
   pub room : count ≤ size
   pub long : length slots ≡ size
@@ -46,20 +46,24 @@ pub record QueueHolds (q : Queue) (v : EventQueue) : Type 0 where
   pub held : queueOf q ≡ v
   pub fits : QueueFits q
 
--- all parts of a target fit: its counts are kept, and its arrays are as long as the sizes say
+-- a queue from which the oldest event is taken, or not
+pub record Popped (q : Queue) (takes : Bool) (q′ : Queue) : Type 0 where
+  pub taken : takes ≡ true → QueueFits q → QueueHolds q′ (withoutOldest (queueOf q))
+  pub kept : takes ≡ false → q′ ≡ q
+
+-- the parts of a target that have a count
 pub record TargetFits (t : Target) : Type 0 where
   pub entries : EntriesFit (t .entries)
   pub unexpected : UnexpectedFit (t .unexpected)
   pub queue : QueueFits (t .queue)
-  pub counters : length (t .counters .slots) ≡ COUNTERS
 
--- a test of a target that is passed only where all parts fit
+-- a test of a target that is passed only where its parts fit: that follows from the answer and the lengths of the arrays
 pub record Tested (test : Target → Bool) (t : Target) (passed : Bool) : Type 0 where
   pub answer : passed ≡ test t
   pub fits : passed ≡ true → TargetFits t
 
 -- what one pass over the entries of a target tells of them; handles that do not ascend may be distinct all the same
-pub record SeenIn (entries : List HeldEntry) (size last : ℕ) (seen : EntriesSeen) : Type 0 where
-  pub sound : seen .sound ≡ every (entrySound size last) entries
-  pub ascend : seen .ascend ≡ true → distinct entries ≡ true
-  pub linked : seen .linked ≡ every isLinked entries
+pub record ScanTells (entries : List HeldEntry) (size last : ℕ) (scan : EntriesScan) : Type 0 where
+  pub sound : scan .sound ≡ every (entrySound size last) entries
+  pub ascend : scan .ascend ≡ true → distinct entries ≡ true
+  pub linked : scan .linked ≡ every isLinked entries

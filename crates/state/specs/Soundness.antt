@@ -10,7 +10,7 @@ use Rattle.matching.specs.Entry.{MANAGE-LOCAL, badEntryArgument}
 use Rattle.matching.specs.EarlyMessages.{takesHeaders}
 use Rattle.state.specs.Lists.{every, any}
 use Rattle.state.specs.Sizes.{MEMORY, SLOTS, HEADERS, EVENTS}
-use Rattle.state.specs.View.{View, isLinked, viewOf}
+use Rattle.state.specs.View.{View, isLinked, hasHandle, viewOf}
 use Rattle.state.specs.declared.layout.HeldEntry.{HeldEntry}
 use Rattle.state.specs.declared.layout.Header.{Header}
 use Rattle.state.specs.declared.layout.Target.{Target}
@@ -23,13 +23,7 @@ sizesKept v =
     && leb (length (v .headers)) HEADERS
     && leb (length (v .queue .events)) EVENTS
 
-abbrev pub hasHandle : ℕ → HeldEntry → Bool
-hasHandle handle x = eqb (x .handle) handle
-
-abbrev pub isLinkedAs : ℕ → HeldEntry → Bool
-isLinkedAs handle x = isLinked x && hasHandle handle x
-
--- "handles distinct". An entry stands where its own portal and list number say (Request, `isIn`), so that with a handle of its own it
+-- "handles distinct". An entry stands where its own portal and list number say (`isIn` in `portals`, specs/Request.antt), so that with a handle of its own it
 -- also "stands once, in its own list"
 abbrev pub distinct : List HeldEntry → Bool
 distinct [] = true

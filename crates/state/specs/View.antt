@@ -1,6 +1,6 @@
 -- What a target holds, as plain lists and numbers. Left free, and not seen here: where the ring of events begins, and what stands in
 -- slots that are not in use.
-use mathlib.Core.Bool.{Bool, not}
+use mathlib.Core.Bool.{Bool, _&&_, not}
 use mathlib.Core.List.{List, []}
 use Prim.Native.Nat.{ℕ, _%_}
 use lib.Dec.{eqb}
@@ -35,12 +35,18 @@ pub record View : Type 0 where
   pub counters : List Counter
   pub registers : Registers
 
--- an entry is linked, or else retired: unlinked, with messages waiting
+-- an entry is linked, or else retired: it unlinked by itself while messages wait in it
 abbrev pub isLinked : HeldEntry → Bool
 isLinked x = eqb (x .retired) 0
 
 abbrev pub isRetired : HeldEntry → Bool
 isRetired x = not (isLinked x)
+
+abbrev pub hasHandle : ℕ → HeldEntry → Bool
+hasHandle handle x = eqb (x .handle) handle
+
+abbrev pub isLinkedAs : ℕ → HeldEntry → Bool
+isLinkedAs handle x = isLinked x && hasHandle handle x
 
 abbrev pub entriesOf : Entries → List HeldEntry
 entriesOf es = take (es .count) (es .slots)
@@ -129,8 +135,8 @@ zeroCounter = record { success = 0; failure = 0 }
 abbrev pub zeroRegisters : Registers
 zeroRegisters = record { dropped = 0; permission = 0; operation = 0 }
 
-abbrev pub newTarget : ℕ → Target
-newTarget size = record {
+abbrev pub emptyTarget : ℕ → Target
+emptyTarget size = record {
   size = size;
   last = 0;
   entries = record { slots = replicate SLOTS zeroEntry; count = 0 };

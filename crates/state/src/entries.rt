@@ -7,9 +7,8 @@ ghost use Prim.Native.Nat.{_<_};
 ghost use lib.ListN.{set};
 ghost use Rattle.state.specs.Sizes.{SLOTS};
 ghost use Rattle.state.specs.Lists.{removeAt, firstFrom, placeOr};
-ghost use Rattle.state.specs.View.{entriesOf};
+ghost use Rattle.state.specs.View.{entriesOf, isLinkedAs};
 ghost use Rattle.state.specs.Parts.{EntriesFit, EntriesHold};
-ghost use Rattle.state.specs.Soundness.{isLinkedAs};
 
 // One more entry, linked last.
 pub fn entry_added(es: Entries, x: HeldEntry) -> Entries

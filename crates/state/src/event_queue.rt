@@ -5,13 +5,14 @@ use matching::events;
 use matching::events::EventKind;
 use matching::events::FailType;
 ghost use mathlib.Core.Path.{_≡_};
-ghost use mathlib.Core.Bool.{cond};
-ghost use Prim.Native.Nat.{_+_, _≤_};
+ghost use mathlib.Core.Bool.{true, cond};
+ghost use mathlib.Core.List.{_∷_};
+ghost use Prim.Native.Nat.{_+_, _-_, _%_, _≤_, _<_};
 ghost use Rattle.state.specs.Sizes.{EVENTS};
 ghost use Rattle.state.specs.Kinds.{eventKind, failType};
 ghost use Rattle.state.specs.View.{queueOf};
-ghost use Rattle.state.specs.Parts.{QueueFits, QueueHolds};
-ghost use Rattle.state.specs.Events.{isDisabled, withGap, gapOf, post};
+ghost use Rattle.state.specs.Parts.{QueueFits, QueueHolds, Popped};
+ghost use Rattle.state.specs.Events.{isDisabled, withGap, gapOf, post, withoutOldest};
 
 // The kind that a number stands for.
 pub fn event_kind(n: u32) -> EventKind
@@ -56,8 +57,8 @@ pub fn gap_of(lost: u64) -> u16
     if lost == 0 { 0 } else { 1 }
 }
 
-// What stands in the slot after the last event: the event with its gap if it joins the queue, else what stood there.
-pub fn slot_after(joins: bool, e: Event, gap: u16, old: Event) -> Event
+// What is stored in the slot behind the last event: the event with its gap if it joins the queue, else what stood there.
+pub fn slot_stored(joins: bool, e: Event, gap: u16, old: Event) -> Event
     ensures { λ r. ⌜ r ≡ cond joins (withGap e gap) old ⌝ }
 {
     if joins {
@@ -104,9 +105,45 @@ pub fn posted(q: Queue, e: Event, options: u32) -> Queue
     let at = (q.head % 64 + n) % 64;
     let old = q.slots[at];
     let mut next = q;
-    let slot = slot_after(joins, e, gap, old);
+    let slot = slot_stored(joins, e, gap, old);
     next.slots[at] = slot;
     next.count = count_after(joins, n);
     next.lost = lost_after(joins, loses, q.lost);
+    next
+}
+
+// The oldest event: before those that are left without it.
+pub fn oldest(q: Queue) -> Event
+    requires { ⌜ QueueFits q ⌝ }
+    requires { ⌜ 0 < q .count ⌝ }
+    ensures { λ r. ⌜ queueOf q .events ≡ r ∷ withoutOldest (queueOf q) .events ⌝ }
+{
+    let at = q.head % 64;
+    q.slots[at]
+}
+
+// The head, one place on where the oldest event is taken.
+pub fn head_after(takes: bool, head: usize) -> usize
+    ensures { λ r. ⌜ r ≡ cond takes ((head % EVENTS + 1) % EVENTS) head ⌝ }
+{
+    if takes { (head % 64 + 1) % 64 } else { head }
+}
+
+// How many events the queue then holds.
+pub fn count_less(takes: bool, n: usize) -> usize
+    requires { ⌜ ((takes ≡ true) → (0 < n)) ⌝ }
+    ensures { λ r. ⌜ r ≡ cond takes (n - 1) n ⌝ }
+{
+    if takes { n - 1 } else { n }
+}
+
+// The queue without its oldest event, where that is taken.
+pub fn popped(q: Queue, takes: bool) -> Queue
+    requires { ⌜ ((takes ≡ true) → (0 < q .count)) ⌝ }
+    ensures { λ r. ⌜ Popped q takes r ⌝ }
+{
+    let mut next = q;
+    next.head = head_after(takes, q.head);
+    next.count = count_less(takes, q.count);
     next
 }

@@ -17,7 +17,7 @@ pub struct HeldEntry {
     pub handle: u32,
     // The local offset.
     pub local: u32,
-    // Not 0: it was unlinked, and is in no list.
+    // Not 0: it unlinked by itself while messages wait in it, and is in no list.
     pub retired: u64,
 }
 
@@ -99,6 +99,7 @@ pub struct Counter {
     pub failure: u64,
 }
 
+// Counting events 0 to 15.
 #[repr(C)]
 pub struct Counters {
     pub slots: [Counter; 16],
@@ -107,8 +108,11 @@ pub struct Counters {
 // The status registers.
 #[repr(C)]
 pub struct Registers {
+    // PTL_SR_DROP_COUNT
     pub dropped: u64,
+    // PTL_SR_PERMISSION_VIOLATIONS
     pub permission: u64,
+    // PTL_SR_OPERATION_VIOLATIONS
     pub operation: u64,
 }
 

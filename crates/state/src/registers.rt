@@ -1,29 +1,29 @@
 // The status registers.
 use crate::layout::Registers;
 ghost use mathlib.Core.Path.{_≡_};
-ghost use Rattle.state.specs.Counters.{registerAt, oneDropped, onePermission, oneOperation};
+ghost use Rattle.state.specs.Registers.{registerAt, requestDropped, permissionViolated, operationViolated};
 
 // One more request was dropped.
-pub fn one_dropped(r: Registers) -> Registers
-    ensures { λ after. ⌜ after ≡ oneDropped r ⌝ }
+pub fn request_dropped(r: Registers) -> Registers
+    ensures { λ after. ⌜ after ≡ requestDropped r ⌝ }
 {
     let mut next = r;
     next.dropped = std::num::wrapping_add_u64(r.dropped, 1);
     next
 }
 
-// One more was denied for its uid.
-pub fn one_permission(r: Registers) -> Registers
-    ensures { λ after. ⌜ after ≡ onePermission r ⌝ }
+// One more was denied for its uid: a permission violation.
+pub fn permission_violated(r: Registers) -> Registers
+    ensures { λ after. ⌜ after ≡ permissionViolated r ⌝ }
 {
     let mut next = r;
     next.permission = std::num::wrapping_add_u64(r.permission, 1);
     next
 }
 
-// One more was denied for its kind.
-pub fn one_operation(r: Registers) -> Registers
-    ensures { λ after. ⌜ after ≡ oneOperation r ⌝ }
+// One more was denied for its kind: an operation violation.
+pub fn operation_violated(r: Registers) -> Registers
+    ensures { λ after. ⌜ after ≡ operationViolated r ⌝ }
 {
     let mut next = r;
     next.operation = std::num::wrapping_add_u64(r.operation, 1);

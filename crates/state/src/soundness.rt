@@ -13,25 +13,24 @@ use matching::early_messages;
 use matching::entry;
 use matching::refusals;
 ghost use mathlib.Core.Path.{_≡_};
-ghost use mathlib.Core.Bool.{cond};
-ghost use Prim.Native.Nat.{_+_, _<_};
-ghost use lib.Dec.{eqb};
-ghost use Rattle.state.specs.Lists.{every};
+ghost use Prim.Native.Nat.{_<_};
+ghost use Rattle.state.specs.Lists.{every, nextPlace};
 ghost use Rattle.state.specs.View.{entriesOf, headersOf};
 ghost use Rattle.state.specs.Soundness.{distinct, entrySound, holds, lengthsKept, headerSound, keepsSlot, countsKept, isSound};
-ghost use Rattle.state.specs.Parts.{EntriesFit, UnexpectedFit, TargetFits, SeenIn, Tested};
+ghost use Rattle.state.specs.Parts.{EntriesFit, UnexpectedFit, TargetFits, ScanTells, Tested};
 
 // What one pass over the entries tells.
-pub struct EntriesSeen {
+pub struct EntriesScan {
     // Each alone is sound.
     pub sound: bool,
-    // Each handle is above the one before it.
+    // Each handle is above the one before it, the first above 0: so they are distinct.
     pub ascend: bool,
     // None is retired.
     pub linked: bool,
 }
 
-// One entry, linked or retired: its handle was given, it passes append's tests, and its local offset is one that it can have.
+// One entry, linked or retired: its handle was given, it passes append's tests, and its local offset is at most its
+// length, and 0 unless MANAGE_LOCAL.
 fn entry_sound(x: HeldEntry, size: u32, last: u32) -> bool
     ensures { λ r. ⌜ r ≡ entrySound size last x ⌝ }
 {
@@ -44,9 +43,9 @@ fn entry_sound(x: HeldEntry, size: u32, last: u32) -> bool
 }
 
 // One pass over the entries.
-fn entries_seen(es: Entries, size: u32, last: u32) -> EntriesSeen
+fn entries_scanned(es: Entries, size: u32, last: u32) -> EntriesScan
     requires { ⌜ EntriesFit es ⌝ }
-    ensures { λ r. ⌜ SeenIn (entriesOf es) size last r ⌝ }
+    ensures { λ r. ⌜ ScanTells (entriesOf es) size last r ⌝ }
 {
     let mut sound = true;
     let mut ascend = true;
@@ -61,7 +60,7 @@ fn entries_seen(es: Entries, size: u32, last: u32) -> EntriesSeen
         highest = x.handle;
         i += 1;
     }
-    EntriesSeen {
+    EntriesScan {
         sound,
         ascend,
         linked,
@@ -91,12 +90,12 @@ fn pairs_differ(es: Entries) -> bool
 }
 
 // No two entries have the same handle. All pairs are compared only where the handles do not ascend.
-fn handles_distinct(t: Target, seen: EntriesSeen) -> bool
+fn handles_distinct(t: Target, scan: EntriesScan) -> bool
     requires { ⌜ TargetFits t ⌝ }
-    requires { ⌜ SeenIn (entriesOf (t .entries)) (t .size) (t .last) seen ⌝ }
+    requires { ⌜ ScanTells (entriesOf (t .entries)) (t .size) (t .last) scan ⌝ }
     ensures { λ r. ⌜ r ≡ distinct (entriesOf (t .entries)) ⌝ }
 {
-    if seen.ascend {
+    if scan.ascend {
         return true;
     }
     let es = t.entries;
@@ -117,17 +116,17 @@ fn is_holder(x: HeldEntry, h: Header) -> bool
     (e.portal == h.portal) & takes & ((e.start <= h.place) & (end <= bound))
 }
 
-// A header's accepted length is at most the requested one, and that at most a whole memory.
+// A header's accepted length is at most the requested one, and that at most 65,536.
 fn lengths_kept(h: Header) -> bool
     ensures { λ r. ⌜ r ≡ lengthsKept h ⌝ }
 {
     (h.accepted <= h.requested) & (h.requested <= 65536)
 }
 
-// The place after one of `count` places: the first after the last.
+// The place after k among `count` places: after the last comes the first.
 fn next_place(k: usize, count: usize) -> usize
     requires { ⌜ k < count ⌝ }
-    ensures { λ r. ⌜ r ≡ cond (eqb (k + 1) count) 0 (k + 1) ⌝ }
+    ensures { λ r. ⌜ r ≡ nextPlace k count ⌝ }
 {
     let next = k + 1;
     if next == count { 0 } else { next }
@@ -135,7 +134,7 @@ fn next_place(k: usize, count: usize) -> usize
 
 // Every header: its lengths are kept, and some entry holds it. The search begins where the last header's entry was found, and goes
 // around.
-fn headers_held(es: Entries, us: Unexpected) -> bool
+fn headers_sound_in(es: Entries, us: Unexpected) -> bool
     requires { ⌜ EntriesFit es ⌝ }
     requires { ⌜ UnexpectedFit us ⌝ }
     ensures { λ r. ⌜ r ≡ every (headerSound (entriesOf es)) (headersOf us) ⌝ }
@@ -172,11 +171,11 @@ fn headers_sound(t: Target) -> bool
     }
     let es = t.entries;
     let us = t.unexpected;
-    headers_held(es, us)
+    headers_sound_in(es, us)
 }
 
 // Every retired entry has a message waiting. The search begins where the last one's was found, and goes around.
-fn slots_waited(es: Entries, us: Unexpected) -> bool
+fn slots_kept_in(es: Entries, us: Unexpected) -> bool
     requires { ⌜ EntriesFit es ⌝ }
     requires { ⌜ UnexpectedFit us ⌝ }
     ensures { λ r. ⌜ r ≡ every (keepsSlot (headersOf us)) (entriesOf es) ⌝ }
@@ -204,17 +203,17 @@ fn slots_waited(es: Entries, us: Unexpected) -> bool
 }
 
 // Every entry keeps its slot. Nothing is looked for where none is retired.
-fn slots_kept(t: Target, seen: EntriesSeen) -> bool
+fn slots_kept(t: Target, scan: EntriesScan) -> bool
     requires { ⌜ TargetFits t ⌝ }
-    requires { ⌜ SeenIn (entriesOf (t .entries)) (t .size) (t .last) seen ⌝ }
+    requires { ⌜ ScanTells (entriesOf (t .entries)) (t .size) (t .last) scan ⌝ }
     ensures { λ r. ⌜ r ≡ every (keepsSlot (headersOf (t .unexpected))) (entriesOf (t .entries)) ⌝ }
 {
-    if seen.linked {
+    if scan.linked {
         return true;
     }
     let es = t.entries;
     let us = t.unexpected;
-    slots_waited(es, us)
+    slots_kept_in(es, us)
 }
 
 // The counts are within the sizes.
@@ -232,9 +231,9 @@ pub fn sound(t: Target) -> bool
         return false;
     }
     let es = t.entries;
-    let seen = entries_seen(es, t.size, t.last);
-    let distinct = handles_distinct(t, seen);
+    let scan = entries_scanned(es, t.size, t.last);
+    let distinct = handles_distinct(t, scan);
     let headers = headers_sound(t);
-    let slots = slots_kept(t, seen);
-    (t.size <= 65536) & distinct & seen.sound & headers & slots
+    let slots = slots_kept(t, scan);
+    (t.size <= 65536) & distinct & scan.sound & headers & slots
 }

@@ -3,8 +3,8 @@ use Rattle.portals.proofs.PartCalls.{read-counter-met}
 use Rattle.portals.proofs.counters.read_counter.Statement.{statement}
 use Rattle.portals.proofs.counters.read_counter.Tie as tie
 
-bad-unless-requires : tie.Need-bad-unless-requires
-bad-unless-requires c κs = search needs
+bad-counter-argument-requires : tie.Need-bad-counter-argument-requires
+bad-counter-argument-requires c κs = search needs
 
 admit-requires : tie.Need-admit-requires
 admit-requires c κs = search needs
@@ -12,8 +12,8 @@ admit-requires c κs = search needs
 counter-at-requires : tie.Need-counter-at-requires
 counter-at-requires c κs = search needs
 
-counter-answer-requires : tie.Need-counter-answer-requires
-counter-answer-requires c κs = search needs
+answer-counter-requires : tie.Need-answer-counter-requires
+answer-counter-requires c κs = search needs
 
 returns : tie.Need-returns
 returns c =
@@ -21,8 +21,8 @@ returns c =
     let m = o .before in
     let b = m .before in
     let a = b .before .args in
-    read-counter-met (a .t) _ (a .k) (b .bad-unless .result) (m .admit .result) (m .admit .ensures) (o .counter-at .result)
-    (b .bad-unless .ensures) (o .counter-at .ensures) (c .counter-answer .ensures)
+    read-counter-met (a .t) _ (a .k) (b .bad-counter-argument .result) (m .admit .result) (m .admit .ensures) (o .counter-at .result)
+    (b .bad-counter-argument .ensures) (o .counter-at .ensures) (c .answer-counter .ensures)
 
 pub read-counter-spec : {M : Type 1} → statement M
-read-counter-spec = tie.close (tie.spec bad-unless-requires admit-requires counter-at-requires counter-answer-requires returns)
+read-counter-spec = tie.close (tie.spec bad-counter-argument-requires admit-requires counter-at-requires answer-counter-requires returns)

@@ -1,33 +1,42 @@
+use mathlib.Core.Path.{sym, _∙_}
 use borrow.Author.Needs.{needs}
-use Rattle.portals.proofs.AdmitLaws.{admits-for, counter-inside}
+use Rattle.portals.proofs.AdmitLaws.{admitted-is, admits-for, counter-inside}
 use Rattle.portals.proofs.PartCalls.{set-met}
 use Rattle.portals.proofs.counters.set_counter.Statement.{statement}
 use Rattle.portals.proofs.counters.set_counter.Tie as tie
 
-bad-unless-requires : tie.Need-bad-unless-requires
-bad-unless-requires c κs = search needs
+bad-counter-argument-requires : tie.Need-bad-counter-argument-requires
+bad-counter-argument-requires c κs = search needs
 
 admit-requires : tie.Need-admit-requires
 admit-requires c κs = search needs
 
-counters-after-requires : tie.Need-counters-after-requires
-counters-after-requires c κs =
-    let m = c in
-    let b = m .before in
-    let a = b .before .before .args in
-    counter-inside (a .x .counter) (a .t) (m .admit .result) (admits-for _ _ (a .t) _ (b .bad-unless .ensures) (m .admit .ensures))
+is-admitted-requires : tie.Need-is-admitted-requires
+is-admitted-requires c κs = search needs
 
-confirmation-of-requires : tie.Need-confirmation-of-requires
-confirmation-of-requires c κs = search needs
+counter-put-requires : tie.Need-counter-put-requires
+counter-put-requires c κs =
+    let i = c in
+    let m = i .before in
+    let b = m .before in
+    let a = b .before .args in
+    λ e.
+    counter-inside (a .x .counter) (a .t) (m .admit .result) (admits-for _ _ (a .t) _ (b .bad-counter-argument .ensures) (m .admit .ensures))
+    (admitted-is (m .admit .result) (sym (i .is-admitted .ensures) ∙ e))
+
+answer-plain-requires : tie.Need-answer-plain-requires
+answer-plain-requires c κs = search needs
 
 returns : tie.Need-returns
 returns c =
-    let n = c .before in
-    let m = n .before in
+    let p = c .before in
+    let i = p .before in
+    let m = i .before in
     let b = m .before in
-    let a = b .before .before .args in
-    set-met (a .t) (n .counters-after .result) _ (a .x) (b .bad-unless .result) (m .admit .result)
-    (b .bad-unless .ensures) (m .admit .ensures) (c .confirmation-of .ensures) (n .counters-after .ensures)
+    let a = b .before .args in
+    set-met (a .t) (p .counter-put .result) _ (a .x) (b .bad-counter-argument .result) (m .admit .result)
+    (b .bad-counter-argument .ensures) (m .admit .ensures) (c .answer-plain .ensures)
+    (rw (← i .is-admitted .ensures) (p .counter-put .ensures))
 
 pub set-counter-spec : {M : Type 1} → statement M
-set-counter-spec = tie.close (tie.spec bad-unless-requires admit-requires counters-after-requires confirmation-of-requires returns)
+set-counter-spec = tie.close (tie.spec bad-counter-argument-requires admit-requires is-admitted-requires counter-put-requires answer-plain-requires returns)

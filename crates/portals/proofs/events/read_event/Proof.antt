@@ -1,4 +1,9 @@
+use mathlib.Core.Path.{ap}
+use mathlib.Core.Bool.{Bool, _&&_}
 use borrow.Author.Needs.{needs}
+use borrow.Author.Tests.{ltb-true}
+use lib.Dec.{ltb}
+use Rattle.state.proofs.ListLaws.{both}
 use Rattle.portals.proofs.PartCalls.{read-event-met}
 use Rattle.portals.proofs.events.read_event.Statement.{statement}
 use Rattle.portals.proofs.events.read_event.Tie as tie
@@ -6,18 +11,25 @@ use Rattle.portals.proofs.events.read_event.Tie as tie
 admit-requires : tie.Need-admit-requires
 admit-requires c κs = search needs
 
-event-answer-requires : tie.Need-event-answer-requires
-event-answer-requires c κs = λ e. c .before .admit .ensures .fits e .queue
+answer-event-requires : tie.Need-answer-event-requires
+answer-event-requires c κs = λ e. c .before .admit .ensures .fits e .queue
 
-queue-after-requires : tie.Need-queue-after-requires
-queue-after-requires c κs = λ e. c .before .before .admit .ensures .fits e .queue
+is-admitted-requires : tie.Need-is-admitted-requires
+is-admitted-requires c κs = search needs
+
+popped-requires : tie.Need-popped-requires
+popped-requires c κs = λ e. ltb-true 0 _ (both (c .before .is-admitted .result) _ e .1)
 
 returns : tie.Need-returns
 returns c =
-    let e = c .before in
+    let i = c .before .before in
+    let e = i .before in
     let m = e .before .before in
-    let a = m .before .args in
-    read-event-met (a .t) (c .queue-after .result) _ (m .admit .result) (m .admit .ensures) (e .event-answer .ensures) (c .queue-after .ensures)
+    let t = m .before .args .t in
+    read-event-met t (c .popped .result) _ (m .admit .result) _ (m .admit .ensures) (e .answer-event .ensures)
+    (ap (λ (b : Bool). b && ltb 0 (t .queue .count)) (i .is-admitted .ensures)) (c .popped .ensures)
 
 pub read-event-spec : {M : Type 1} → statement M
-read-event-spec = tie.close (tie.spec admit-requires event-answer-requires queue-after-requires returns)
+read-event-spec =
+    tie.close
+    (tie.spec admit-requires answer-event-requires is-admitted-requires popped-requires returns)

@@ -12,8 +12,8 @@ admit-requires c κs = search needs
 register-at-requires : tie.Need-register-at-requires
 register-at-requires c κs = search needs
 
-register-answer-requires : tie.Need-register-answer-requires
-register-answer-requires c κs = search needs
+answer-register-requires : tie.Need-answer-register-requires
+answer-register-requires c κs = search needs
 
 returns : tie.Need-returns
 returns c =
@@ -22,7 +22,7 @@ returns c =
     let b = m .before in
     let a = b .before .args in
     read-register-met (a .t) _ (a .k) (b .bad-unless .result) (m .admit .result) (m .admit .ensures) (o .register-at .result)
-    (b .bad-unless .ensures) (o .register-at .ensures) (c .register-answer .ensures)
+    (b .bad-unless .ensures) (o .register-at .ensures) (c .answer-register .ensures)
 
 pub read-register-spec : {M : Type 1} → statement M
-read-register-spec = tie.close (tie.spec bad-unless-requires admit-requires register-at-requires register-answer-requires returns)
+read-register-spec = tie.close (tie.spec bad-unless-requires admit-requires register-at-requires answer-register-requires returns)

@@ -15,11 +15,11 @@ returns c =
     sym (every-imply isLinked (keepsSlot headers) (entriesOf (t .entries)) (λ x e. or-left (isLinked x) (any (waitsIn x) headers) e)
     (sym (c .before .pre .1 .linked) ∙ c .if1 .taken))
 
-slots-waited-requires : tie.Need-slots-waited-requires
-slots-waited-requires c κs = search needs
+slots-kept-in-requires : tie.Need-slots-kept-in-requires
+slots-kept-in-requires c κs = search needs
 
 returns-2 : tie.Need-returns-2
 returns-2 c = search needs
 
 pub slots-kept-spec : {M : Type 1} → statement M
-slots-kept-spec = tie.close (tie.spec returns slots-waited-requires returns-2)
+slots-kept-spec = tie.close (tie.spec returns slots-kept-in-requires returns-2)

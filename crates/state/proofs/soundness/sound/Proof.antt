@@ -22,11 +22,11 @@ returns c =
       fits = λ e. absurd (false≢true e);
     }
 
-entries-seen-requires : tie.Need-entries-seen-requires
-entries-seen-requires c κs = parts-fit (c .before) .entries
+entries-scanned-requires : tie.Need-entries-scanned-requires
+entries-scanned-requires c κs = parts-fit (c .before) .entries
 
 handles-distinct-requires : tie.Need-handles-distinct-requires
-handles-distinct-requires c κs = (parts-fit (c .before .before), c .entries-seen .ensures)
+handles-distinct-requires c κs = (parts-fit (c .before .before), c .entries-scanned .ensures)
 
 headers-sound-requires : tie.Need-headers-sound-requires
 headers-sound-requires c κs = parts-fit (c .before .before .before)
@@ -34,7 +34,7 @@ headers-sound-requires c κs = parts-fit (c .before .before .before)
 slots-kept-requires : tie.Need-slots-kept-requires
 slots-kept-requires c κs =
     let e = c .before .before in
-    (parts-fit (e .before .before), e .entries-seen .ensures)
+    (parts-fit (e .before .before), e .entries-scanned .ensures)
 
 returns-2 : tie.Need-returns-2
 returns-2 c =
@@ -47,7 +47,7 @@ returns-2 c =
     record {
       answer =
           sound-by (b .before .before .args .t) _ _ _ _ (sym (k .ensures .answer) ∙ not-false _ (b .if1 .left))
-          (d .handles-distinct .ensures) (e .entries-seen .ensures .sound) (h .headers-sound .ensures) (s .slots-kept .ensures);
+          (d .handles-distinct .ensures) (e .entries-scanned .ensures .sound) (h .headers-sound .ensures) (s .slots-kept .ensures);
       fits = λ passed. parts-fit b;
     }
 
@@ -57,7 +57,7 @@ sound-spec =
     (tie.spec
     counts-kept-requires
     returns
-    entries-seen-requires
+    entries-scanned-requires
     handles-distinct-requires
     headers-sound-requires
     slots-kept-requires

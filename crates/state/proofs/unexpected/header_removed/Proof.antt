@@ -40,13 +40,13 @@ loop-less : tie.Need-loop-less Inv-loop μ-loop
 loop-less c = search needs
 
 loop-again : tie.Need-loop-again Inv-loop μ-loop
-loop-again c = closing-more _ (c .before .before .loop .inv) (c .before .loop-test .taken)
+loop-again c = closing-more _ (c .before .before .loop .inv) (search needs)
 
 sub-next : tie.Need-sub-next Inv-loop μ-loop
 sub-next c = search needs
 
 returns : tie.Need-returns Inv-loop μ-loop
-returns c = closed (c .before .loop .inv) (c .loop-test .left)
+returns c = closed (c .before .loop .inv) (search needs)
 
 pub header-removed-spec : {M : Type 1} → statement M
 header-removed-spec =
