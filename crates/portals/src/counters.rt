@@ -9,6 +9,7 @@ use state::counters;
 use state::layout::Counter;
 use state::layout::CounterChange;
 use state::layout::Target;
+use state::sizes;
 ghost use mathlib.Core.Path.{_≡_};
 ghost use Rattle.portals.specs.Admission.{byAdmission};
 ghost use Rattle.portals.specs.Answers.{DONE, COUNTER, refused, plainAnswer, counterAnswer};
@@ -19,7 +20,7 @@ ghost use Rattle.portals.specs.Promises.{SetCounterMet, IncrementMet, Re
 fn bad_counter_argument(k: u64) -> BadArgument
     ensures { λ r. ⌜ r ≡ badCounterArgument k ⌝ }
 {
-    admission::bad_unless(k < 16, BadArgument::Counter)
+    admission::bad_unless(k < sizes::COUNTERS, BadArgument::Counter)
 }
 
 // What a call that sets or increments answers.

@@ -1,6 +1,7 @@
 // The counting events.
 use crate::layout::Counter;
 use crate::layout::Counters;
+use crate::sizes;
 use matching::entry;
 ghost use mathlib.Core.Path.{_≡_};
 ghost use mathlib.Core.Bool.{true, cond};
@@ -13,7 +14,7 @@ ghost use Rattle.state.specs.Counters.{counterAt, increased, counted};
 pub fn counter_at(cs: Counters, k: u64) -> Counter
     ensures { λ r. ⌜ r ≡ counterAt (cs .slots) k ⌝ }
 {
-    if 16 <= k {
+    if sizes::COUNTERS <= k {
         return Counter {
             success: 0,
             failure: 0,
@@ -45,7 +46,7 @@ pub fn counter_put(cs: Counters, stores: bool, k: u64, c: Counter) -> Counters
     requires { ⌜ ((stores ≡ true) → (k < COUNTERS)) ⌝ }
     ensures { λ r. ⌜ r .slots ≡ cond stores (set (cs .slots) k c) (cs .slots) ⌝ }
 {
-    let at = (k % 16) as usize;
+    let at = (k % sizes::COUNTERS) as usize;
     let old = cs.slots[at];
     let mut next = cs;
     let slot = slot_stored(stores, c, old);

@@ -1,6 +1,7 @@
 // The event queue: a ring of 64 slots that begins at its head, which is read modulo 64.
 use crate::layout::Event;
 use crate::layout::Queue;
+use crate::sizes;
 use matching::events;
 use matching::events::EventKind;
 use matching::events::FailType;
@@ -98,11 +99,11 @@ pub fn posted(q: Queue, e: Event, options: u32) -> Queue
 {
     let n = q.count;
     let disabled = is_event_disabled(e, options);
-    let room = n < 64;
+    let room = n < sizes::EVENTS;
     let joins = !disabled & room;
     let loses = !disabled & !room;
     let gap = gap_of(q.lost);
-    let at = (q.head % 64 + n) % 64;
+    let at = (q.head % sizes::EVENTS + n) % sizes::EVENTS;
     let old = q.slots[at];
     let mut next = q;
     let slot = slot_stored(joins, e, gap, old);
@@ -118,7 +119,7 @@ pub fn oldest(q: Queue) -> Event
     requires { ⌜ 0 < q .count ⌝ }
     ensures { λ r. ⌜ queueOf q .events ≡ r ∷ withoutOldest (queueOf q) .events ⌝ }
 {
-    let at = q.head % 64;
+    let at = q.head % sizes::EVENTS;
     q.slots[at]
 }
 
@@ -126,7 +127,11 @@ pub fn oldest(q: Queue) -> Event
 pub fn head_after(takes: bool, head: usize) -> usize
     ensures { λ r. ⌜ r ≡ cond takes ((head % EVENTS + 1) % EVENTS) head ⌝ }
 {
-    if takes { (head % 64 + 1) % 64 } else { head }
+    if takes {
+        (head % sizes::EVENTS + 1) % sizes::EVENTS
+    } else {
+        head
+    }
 }
 
 // How many events the queue then holds.

@@ -9,6 +9,7 @@ use crate::layout::Header;
 use crate::layout::HeldEntry;
 use crate::layout::Target;
 use crate::layout::Unexpected;
+use crate::sizes;
 use matching::early_messages;
 use matching::entry;
 use matching::refusals;
@@ -120,7 +121,7 @@ fn is_holder(x: HeldEntry, h: Header) -> bool
 fn lengths_kept(h: Header) -> bool
     ensures { λ r. ⌜ r ≡ lengthsKept h ⌝ }
 {
-    (h.accepted <= h.requested) & (h.requested <= 65536)
+    (h.accepted <= h.requested) & (h.requested <= sizes::MEMORY)
 }
 
 // The place after k among `count` places: after the last comes the first.
@@ -220,7 +221,9 @@ fn slots_kept(t: Target, scan: EntriesScan) -> bool
 fn counts_kept(t: Target) -> bool
     ensures { λ r. ⌜ Tested countsKept t r ⌝ }
 {
-    (t.entries.count <= 64) & (t.unexpected.count <= 32) & (t.queue.count <= 64)
+    (t.entries.count <= sizes::SLOTS)
+        & (t.unexpected.count <= sizes::HEADERS)
+        & (t.queue.count <= sizes::EVENTS)
 }
 
 // The state is sound.
@@ -235,5 +238,5 @@ pub fn sound(t: Target) -> bool
     let distinct = handles_distinct(t, scan);
     let headers = headers_sound(t);
     let slots = slots_kept(t, scan);
-    (t.size <= 65536) & distinct & scan.sound & headers & slots
+    (t.size <= sizes::MEMORY) & distinct & scan.sound & headers & slots
 }
