@@ -16,7 +16,7 @@ use Rattle.state.specs.declared.layout.Counter.{Counter}
 use Rattle.state.specs.declared.layout.Target.{Target}
 use Rattle.portals.specs.Refusals.{Condition, goodArguments, unlessRefused}
 use Rattle.portals.specs.Admission.{admissionIf, admission, isAdmitted, Admits}
-use Rattle.portals.specs.CounterCalls.{counterTests}
+use Rattle.portals.specs.CounterCalls.{badCounterArgument, counterTests}
 use Rattle.portals.specs.declared.admission.Admission.{Admission}
 use Rattle.portals.specs.declared.admission.Admission.the-variants as Admission
 use Rattle.portals.proofs.GuardLaws.{AllPassed, guard-cases, good-passed}
@@ -53,8 +53,14 @@ admitted-passed tests t e = by (isSound t) e
     by true f = unless-passed (tests (viewOf t)) f
     by false f = absurd (not-admitted Refusal.BadState f)
 
--- a call on a counter has one to work on
-pub counter-inside : (k : ℕ) (t : Target) (a : Admission) → a ≡ admission (λ v. counterTests k) t → a ≡ Admission.Admitted → k < COUNTERS
-counter-inside k t a e f =
+-- a call that stores a counter because it was admitted has one to store
+pub counter-inside : (k : ℕ) (t : Target) (a : Admission) (found : BadArgument) (stores : Bool)
+    → found ≡ badCounterArgument k
+    → Admits (λ v. goodArguments found ∷ []) t a
+    → stores ≡ isAdmitted a
+    → stores ≡ true
+    → k < COUNTERS
+counter-inside k t a found stores is-bad admits is e =
+    let admitted = sym (admits-for found (badCounterArgument k) t a is-bad admits) ∙ admitted-is a (sym is ∙ e) in
     ltb-true k COUNTERS
-    (good-passed BadArgument.Counter (ltb k COUNTERS) refl (admitted-passed (λ v. counterTests k) t (sym e ∙ f) .0))
+    (good-passed BadArgument.Counter (ltb k COUNTERS) refl (admitted-passed (λ v. counterTests k) t admitted .0))

@@ -1,8 +1,8 @@
-use mathlib.Core.Path.{ap, sym, _∙_}
+use mathlib.Core.Path.{ap, _∙_}
 use borrow.Author.Needs.{needs}
 use Rattle.state.specs.Counters.{increased}
 use Rattle.state.specs.declared.layout.Counter.{Counter}
-use Rattle.portals.proofs.AdmitLaws.{admitted-is, admits-for, counter-inside}
+use Rattle.portals.proofs.AdmitLaws.{counter-inside}
 use Rattle.portals.proofs.PartCalls.{increment-met}
 use Rattle.portals.proofs.counters.increment.Statement.{statement}
 use Rattle.portals.proofs.counters.increment.Tie as tie
@@ -28,9 +28,8 @@ counter-put-requires c κs =
     let m = i .before in
     let b = m .before in
     let a = b .before .args in
-    λ e.
-    counter-inside (a .x .counter) (a .t) (m .admit .result) (admits-for _ _ (a .t) _ (b .bad-counter-argument .ensures) (m .admit .ensures))
-    (admitted-is (m .admit .result) (sym (i .is-admitted .ensures) ∙ e))
+    counter-inside (a .x .counter) (a .t) (m .admit .result) (b .bad-counter-argument .result) (i .is-admitted .result)
+    (b .bad-counter-argument .ensures) (m .admit .ensures) (i .is-admitted .ensures)
 
 answer-plain-requires : tie.Need-answer-plain-requires
 answer-plain-requires c κs = search needs

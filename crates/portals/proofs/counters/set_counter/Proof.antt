@@ -1,6 +1,5 @@
-use mathlib.Core.Path.{sym, _∙_}
 use borrow.Author.Needs.{needs}
-use Rattle.portals.proofs.AdmitLaws.{admitted-is, admits-for, counter-inside}
+use Rattle.portals.proofs.AdmitLaws.{counter-inside}
 use Rattle.portals.proofs.PartCalls.{set-met}
 use Rattle.portals.proofs.counters.set_counter.Statement.{statement}
 use Rattle.portals.proofs.counters.set_counter.Tie as tie
@@ -16,13 +15,11 @@ is-admitted-requires c κs = search needs
 
 counter-put-requires : tie.Need-counter-put-requires
 counter-put-requires c κs =
-    let i = c in
-    let m = i .before in
+    let m = c .before in
     let b = m .before in
     let a = b .before .args in
-    λ e.
-    counter-inside (a .x .counter) (a .t) (m .admit .result) (admits-for _ _ (a .t) _ (b .bad-counter-argument .ensures) (m .admit .ensures))
-    (admitted-is (m .admit .result) (sym (i .is-admitted .ensures) ∙ e))
+    counter-inside (a .x .counter) (a .t) (m .admit .result) (b .bad-counter-argument .result) (c .is-admitted .result)
+    (b .bad-counter-argument .ensures) (m .admit .ensures) (c .is-admitted .ensures)
 
 answer-plain-requires : tie.Need-answer-plain-requires
 answer-plain-requires c κs = search needs
