@@ -2,7 +2,7 @@
 use mathlib.Core.Path.{_≡_, refl, ap, sym, _∙_}
 use mathlib.Core.Bool.{Bool, true, false, false≢true}
 use mathlib.Core.List.{List, [], _∷_}
-use Prim.Native.Nat.{ℕ, _-_, _<_}
+use Prim.Native.Nat.{ℕ, _<_}
 use borrow.Author.Tests.{ltb-true}
 use lib.Dec.{ltb}
 use Rattle.matching.specs.declared.refusals.Refusal.{Refusal}
@@ -12,7 +12,6 @@ use Rattle.matching.specs.declared.refusals.BadArgument.the-variants as BadArgu
 use Rattle.state.specs.Sizes.{COUNTERS}
 use Rattle.state.specs.View.{View, viewOf}
 use Rattle.state.specs.Soundness.{isSound}
-use Rattle.state.specs.declared.layout.Counter.{Counter}
 use Rattle.state.specs.declared.layout.Target.{Target}
 use Rattle.portals.specs.Refusals.{Condition, goodArguments, unlessRefused}
 use Rattle.portals.specs.Admission.{admissionIf, admission, isAdmitted, Admits}

@@ -46,6 +46,7 @@ fits-counts t f =
 -- ## What a call comes to, by its admission
 
 module _ {R : Type 0} (refuse : Refusal → R) (does : R) where
+  -- a test decides which of two admissions it is
   either : (passed : Bool) (x y : R) (a b : Admission)
       → x ≡ byAdmission refuse does a
       → y ≡ byAdmission refuse does b
@@ -53,6 +54,7 @@ module _ {R : Type 0} (refuse : Refusal → R) (does : R) where
   either true x y a b p q = p
   either false x y a b p q = q
 
+  -- the first refusal, or what the call does, is what its admission says
   unless-by : (tests : List Condition)
       → unlessRefused refuse tests does ≡ byAdmission refuse does (unlessRefused Admission.Refused tests Admission.Admitted)
   unless-by [] = refl
@@ -69,23 +71,23 @@ pub record Done {B : Type 0} (does : Outcome View B) (t′ : Target) (left : B) 
   pub counts : countsKept t′ ≡ true
 
 -- a refused one left all as it was
-pub record Left {B : Type 0} (r : Refusal) (t : Target) (lent : B) (t′ : Target) (left : B) (answer : Answer) : Type 0 where
+pub record Unchanged {B : Type 0} (r : Refusal) (t : Target) (lent : B) (t′ : Target) (left : B) (answer : Answer) : Type 0 where
   pub answers : answer ≡ refused r
   pub state : t′ ≡ t
   pub buffer : left ≡ lent
 
 abbrev pub Ending : {B : Type 0} → Outcome View B → Target → B → Target → B → Answer → Admission → Type 0
 Ending does t lent t′ left answer Admission.Admitted = Done does t′ left answer
-Ending does t lent t′ left answer (Admission.Refused r) = Left r t lent t′ left answer
+Ending does t lent t′ left answer (Admission.Refused r) = Unchanged r t lent t′ left answer
 
 module _ {B : Type 0} (call : View → Outcome View B) (t : Target) (lent : B) (answer : Answer) (t′ : Target) (left : B) where
-  unsound-met : isSound t ≡ false → Left Refusal.BadState t lent t′ left answer → Met call t lent answer t′ left
+  unsound-met : isSound t ≡ false → Unchanged Refusal.BadState t lent t′ left answer → Met call t lent answer t′ left
   unsound-met h l = record {
     outcome = rw (l .answers, l .state, l .buffer, seen-unsound t h);
     unchanged = λ e. l .state;
   }
 
-  refused-met : (r : Refusal) → isSound t ≡ true → call (viewOf t) ≡ refusal (viewOf t) lent r → Left r t lent t′ left answer
+  refused-met : (r : Refusal) → isSound t ≡ true → call (viewOf t) ≡ refusal (viewOf t) lent r → Unchanged r t lent t′ left answer
       → Met call t lent answer t′ left
   refused-met r h is l = record {
     outcome = rw (l .answers, l .state, l .buffer, seen-sound t h, is);

@@ -1,5 +1,5 @@
--- The calls that touch no list: each keeps its promise where it was admitted as its tests say, answers by that, and leaves the one
--- part that it may change as that says.
+-- The calls that touch no list. Each keeps its promise if it is admitted as its tests say, answers by its admission, and stores or
+-- leaves the one part that it may change accordingly.
 use mathlib.Core.Path.{_≡_, refl, ap, sym, _∙_, subst}
 use mathlib.Core.Bool.{Bool, true, false, _&&_, cond}
 use mathlib.Core.List.{List, [], _∷_}
@@ -144,7 +144,7 @@ queueLeft t queue = record {
 
 -- what is left: without the oldest event if there is one, else nothing changes
 taken-holds : (q q′ : Queue) (some : Bool) → ltb 0 (q .count) ≡ some → Popped q some q′ → QueueFits q → QueueHolds q′ (withoutOldest (queueOf q))
-taken-holds q q′ true e p f = p .taken refl f
+taken-holds q q′ true e p f = p .taken refl
 taken-holds q q′ false e p f =
     let n : q .count ≡ 0 = omega (arith, ltb-false 0 (q .count) e) in
     record { held = rw (p .kept refl, n); fits = rw (p .kept refl) f }

@@ -1,4 +1,4 @@
--- Whether a call is admitted: the first step of every call, on which its others go.
+-- Whether a call is admitted: the first step of every call, by which its other steps go.
 use mathlib.Core.Path.{_≡_}
 use mathlib.Core.Bool.{Bool, true, false}
 use mathlib.Core.List.{List}

@@ -1,4 +1,4 @@
--- Making a target, from what is settled for it.
+-- Making a target from its settings.
 use mathlib.Core.List.{[], _∷_}
 use lib.Dec.{leb}
 use Rattle.matching.specs.Refusals.{firstBad}

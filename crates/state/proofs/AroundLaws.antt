@@ -27,7 +27,7 @@ module _ {A : Type 0} (p : A → Bool) where
   any-append [] m = refl
   any-append (x ∷ l) m = ap (λ (b : Bool). p x || b) (any-append l m) ∙ sym (or-assoc (p x) (any p l) (any p m))
 
-  -- all around is all
+  -- a full turn from place k meets the elements of the whole list
   pub any-around : (k : ℕ) (l : List A) → k ≤ length l → any p (ringOf k (length l) l) ≡ any p l
   any-around k l h =
       let n : length l ≡ length (drop k l) + k = rw (length-drop k l) (omega arith) in
@@ -74,7 +74,7 @@ module _ {A : Type 0} (p : A → Bool) where
         ∙ pop (take count slots) k (left - 1) (nextPlace k count) d (omega arith) (omega arith) (rw n (next-cases k count (omega arith))) in
         a .rest ∙ ap (any p) e ∙ rw (getD-take count slots k d (omega arith))
 
-    -- the one there does not pass
+    -- the element at k does not pass
     pub around-more : (left : ℕ) (d : A)
         → Around size count slots k left
         → 0 < left
@@ -90,10 +90,10 @@ module _ {A : Type 0} (p : A → Bool) where
           rest = around-turn left d a h ∙ rw e;
         }
 
-    -- it does
+    -- the element at k passes
     pub around-found : (left : ℕ) (d : A) → Around size count slots k left → 0 < left → p (getD slots k d) ≡ true → any p (take count slots) ≡ true
     around-found left d a h e = around-turn left d a h ∙ rw e
 
-    -- none is left
+    -- no place is left
     pub around-none : (left : ℕ) → Around size count slots k left → left ≤ 0 → any p (take count slots) ≡ false
     around-none left a h = let n : left ≡ 0 = omega arith in a .rest ∙ rw n

@@ -14,7 +14,7 @@ use Rattle.state.specs.Parts.{EntriesFit}
 use Rattle.state.specs.declared.layout.HeldEntry.{HeldEntry}
 use Rattle.state.specs.declared.layout.Entries.{Entries}
 use Rattle.state.proofs.ListLaws.{both}
-use Rattle.state.proofs.TurnLaws.{left, none-left}
+use Rattle.state.proofs.TurnLaws.{slot-and-rest, none-left}
 
 -- each handle is above the one before it, the first above a number
 abbrev pub ascend : ℕ → List HeldEntry → Bool
@@ -38,14 +38,14 @@ ascend-distinct n (x ∷ l) e =
 -- ## Turns
 
 module _ (es : Entries) (fits : EntriesFit es) where
-  -- so far, and those from i on: entry i goes over
+  -- so far, and those from i on: entry i moves from what is left to what was seen
   pub ascend-more : (all so-far : Bool) (n i : ℕ) (d : HeldEntry)
       → i < es .count
       → all ≡ (so-far && ascend n (drop i (entriesOf es)))
       → all ≡ ((so-far && ltb n (getD (es .slots) i d .handle)) && ascend (getD (es .slots) i d .handle) (drop (i + 1) (entriesOf es)))
   ascend-more all so-far n i d h f =
       f
-      ∙ rw (left (es .slots) (es .count) fits i d h)
+      ∙ rw (slot-and-rest (es .slots) (es .count) fits i d h)
       (sym (and-assoc so-far (ltb n (getD (es .slots) i d .handle)) (ascend (getD (es .slots) i d .handle) (drop (i + 1) (entriesOf es)))))
 
   -- none is left
@@ -55,7 +55,7 @@ module _ (es : Entries) (fits : EntriesFit es) where
   -- an entry's own handle against those after it, and then these
   pub distinct-on : (i : ℕ) (d : HeldEntry) → i < es .count
       → distinct (drop i (entriesOf es)) ≡ (not (any (hasHandle (getD (es .slots) i d .handle)) (drop (i + 1) (entriesOf es))) && distinct (drop (i + 1) (entriesOf es)))
-  distinct-on i d h = rw (left (es .slots) (es .count) fits i d h)
+  distinct-on i d h = rw (slot-and-rest (es .slots) (es .count) fits i d h)
 
   pub distinct-end : (i : ℕ) → es .count ≤ i → distinct (drop i (entriesOf es)) ≡ true
   distinct-end i h = rw (none-left (es .slots) (es .count) fits i h)
@@ -64,11 +64,11 @@ module _ (es : Entries) (fits : EntriesFit es) where
   module _ (handle : ℕ) (rest : Bool) (j : ℕ) where
     pub pair-same : (d : HeldEntry) → j < es .count → hasHandle handle (getD (es .slots) j d) ≡ true
         → (not (any (hasHandle handle) (drop j (entriesOf es))) && rest) ≡ false
-    pair-same d h e = rw (left (es .slots) (es .count) fits j d h, e)
+    pair-same d h e = rw (slot-and-rest (es .slots) (es .count) fits j d h, e)
 
     pub pair-differs : (d : HeldEntry) → j < es .count → hasHandle handle (getD (es .slots) j d) ≡ false
         → (not (any (hasHandle handle) (drop j (entriesOf es))) && rest) ≡ (not (any (hasHandle handle) (drop (j + 1) (entriesOf es))) && rest)
-    pair-differs d h e = rw (left (es .slots) (es .count) fits j d h, e)
+    pair-differs d h e = rw (slot-and-rest (es .slots) (es .count) fits j d h, e)
 
     pub pairs-end : es .count ≤ j → (not (any (hasHandle handle) (drop j (entriesOf es))) && rest) ≡ rest
     pairs-end h = rw (none-left (es .slots) (es .count) fits j h)

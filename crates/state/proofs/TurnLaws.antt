@@ -12,8 +12,8 @@ use Rattle.state.proofs.SlotLaws.{in-use}
 
 module _ {A : Type 0} {size : ℕ} (slots : List A) (count : ℕ) (fits : Fits size slots count) where
   -- what is left from i on begins with slot i
-  pub left : (i : ℕ) (d : A) → i < count → drop i (take count slots) ≡ getD slots i d ∷ drop (i + 1) (take count slots)
-  left i d h = rw add-one (drop-cons (take count slots) i d (rw (in-use fits) h) ∙ rw (getD-take count slots i d h))
+  pub slot-and-rest : (i : ℕ) (d : A) → i < count → drop i (take count slots) ≡ getD slots i d ∷ drop (i + 1) (take count slots)
+  slot-and-rest i d h = rw add-one (drop-cons (take count slots) i d (rw (in-use fits) h) ∙ rw (getD-take count slots i d h))
 
   pub none-left : (i : ℕ) → count ≤ i → drop i (take count slots) ≡ []
   none-left i h =
@@ -24,13 +24,13 @@ module _ {A : Type 0} {size : ℕ} (slots : List A) (count : ℕ) (fits : Fits s
     -- every one passes: slot i does, and those after it do
     pub every-turn : (d : A) → i < count
         → every p (drop i (take count slots)) ≡ (p (getD slots i d) && every p (drop (i + 1) (take count slots)))
-    every-turn d h = rw (left i d h)
+    every-turn d h = rw (slot-and-rest i d h)
 
-    -- slot i does
+    -- slot i passes
     pub every-on : (d : A) → i < count → p (getD slots i d) ≡ true → every p (drop i (take count slots)) ≡ every p (drop (i + 1) (take count slots))
     every-on d h e = every-turn d h ∙ rw e
 
-    -- it does not
+    -- slot i does not pass
     pub every-off : (d : A) → i < count → p (getD slots i d) ≡ false → every p (drop i (take count slots)) ≡ false
     every-off d h e = every-turn d h ∙ rw e
 
@@ -38,7 +38,7 @@ module _ {A : Type 0} {size : ℕ} (slots : List A) (count : ℕ) (fits : Fits s
     pub every-end : count ≤ i → every p (drop i (take count slots)) ≡ true
     every-end h = rw (none-left i h)
 
-    -- so far, and those from i on: slot i goes over
+    -- so far, and those from i on: slot i moves from what is left to what was seen
     pub every-more : (all so-far passes : Bool) (d : A)
         → i < count
         → passes ≡ p (getD slots i d)

@@ -17,7 +17,7 @@ use Rattle.state.specs.declared.layout.Queue.{Queue}
 use Rattle.state.specs.declared.layout.Target.{Target}
 use Rattle.state.specs.declared.soundness.EntriesScan.{EntriesScan}
 
--- an array of `size` slots, of which the first `count` are in use
+-- an array of `size` slots, `count` of them in use
 pub record Fits {A : Type 0} (size : ℕ) (slots : List A) (count : ℕ) : Type 0 where
   pub room : count ≤ size
   pub long : length slots ≡ size
@@ -31,7 +31,7 @@ UnexpectedFit us = Fits HEADERS (us .slots) (us .count)
 abbrev pub QueueFits : Queue → Type 0
 QueueFits q = Fits EVENTS (q .slots) (q .count)
 
--- it holds these elements, in this order
+-- its first `count` slots hold these elements, in this order
 pub record Holds {A : Type 0} (size : ℕ) (slots : List A) (count : ℕ) (l : List A) : Type 0 where
   pub held : take count slots ≡ l
   pub fits : Fits size slots count
@@ -48,7 +48,7 @@ pub record QueueHolds (q : Queue) (v : EventQueue) : Type 0 where
 
 -- a queue from which the oldest event is taken, or not
 pub record Popped (q : Queue) (takes : Bool) (q′ : Queue) : Type 0 where
-  pub taken : takes ≡ true → QueueFits q → QueueHolds q′ (withoutOldest (queueOf q))
+  pub taken : takes ≡ true → QueueHolds q′ (withoutOldest (queueOf q))
   pub kept : takes ≡ false → q′ ≡ q
 
 -- the parts of a target that have a count
@@ -57,7 +57,7 @@ pub record TargetFits (t : Target) : Type 0 where
   pub unexpected : UnexpectedFit (t .unexpected)
   pub queue : QueueFits (t .queue)
 
--- a test of a target that is passed only where its parts fit: that follows from the answer and the lengths of the arrays
+-- a test of a target whose passing shows that its parts fit
 pub record Tested (test : Target → Bool) (t : Target) (passed : Bool) : Type 0 where
   pub answer : passed ≡ test t
   pub fits : passed ≡ true → TargetFits t

@@ -35,13 +35,13 @@ pub fn increased_by(c: Counter, success: u64, failure: u64) -> Counter
 }
 
 // The counter that is stored: `c`, or else the one that stood there.
-pub fn slot_stored(stores: bool, c: Counter, old: Counter) -> Counter
+fn counter_stored(stores: bool, c: Counter, old: Counter) -> Counter
     ensures { λ r. ⌜ r ≡ cond stores c old ⌝ }
 {
     if stores { c } else { old }
 }
 
-// The counters with `c` as counter k, where it is stored; else as they were. Where it is not, the slot gets back what it held.
+// The counters with `c` as counter k if `stores`; else as they were: slot k modulo 16 is then written with what it held.
 pub fn counter_put(cs: Counters, stores: bool, k: u64, c: Counter) -> Counters
     requires { ⌜ ((stores ≡ true) → (k < COUNTERS)) ⌝ }
     ensures { λ r. ⌜ r .slots ≡ cond stores (set (cs .slots) k c) (cs .slots) ⌝ }
@@ -49,7 +49,7 @@ pub fn counter_put(cs: Counters, stores: bool, k: u64, c: Counter) -> Counters
     let at = (k % sizes::COUNTERS) as usize;
     let old = cs.slots[at];
     let mut next = cs;
-    let slot = slot_stored(stores, c, old);
+    let slot = counter_stored(stores, c, old);
     next.slots[at] = slot;
     next
 }

@@ -53,7 +53,7 @@ pub fn entry_removed(es: Entries, at: usize) -> Entries
 }
 
 // The entry is linked, with this handle.
-pub fn is_linked_as(x: HeldEntry, handle: u32) -> bool
+fn is_linked_as(x: HeldEntry, handle: u32) -> bool
     ensures { λ r. ⌜ r ≡ isLinkedAs handle x ⌝ }
 {
     (x.retired == 0) & (x.handle == handle)

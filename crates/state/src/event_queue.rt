@@ -16,7 +16,7 @@ ghost use Rattle.state.specs.Parts.{QueueFits, QueueHolds, Popped};
 ghost use Rattle.state.specs.Events.{isDisabled, withGap, gapOf, post, withoutOldest};
 
 // The kind that a number stands for.
-pub fn event_kind(n: u32) -> EventKind
+fn event_kind(n: u32) -> EventKind
     ensures { λ r. ⌜ r ≡ eventKind n ⌝ }
 {
     match n {
@@ -32,7 +32,7 @@ pub fn event_kind(n: u32) -> EventKind
 }
 
 // The fail type that a number stands for.
-pub fn fail_type(n: u16) -> FailType
+fn fail_type(n: u16) -> FailType
     ensures { λ r. ⌜ r ≡ failType n ⌝ }
 {
     if n == 0 {
@@ -43,7 +43,7 @@ pub fn fail_type(n: u16) -> FailType
 }
 
 // The options disable the event.
-pub fn is_event_disabled(e: Event, options: u32) -> bool
+fn is_event_disabled(e: Event, options: u32) -> bool
     ensures { λ r. ⌜ r ≡ isDisabled (record { event = e; options = options }) ⌝ }
 {
     let kind = event_kind(e.kind);
@@ -52,27 +52,27 @@ pub fn is_event_disabled(e: Event, options: u32) -> bool
 }
 
 // The gap that the next event carries.
-pub fn gap_of(lost: u64) -> u16
+fn gap_of(lost: u64) -> u16
     ensures { λ r. ⌜ r ≡ gapOf lost ⌝ }
 {
     if lost == 0 { 0 } else { 1 }
 }
 
-// What is stored in the slot behind the last event: the event with its gap if it joins the queue, else what stood there.
-pub fn slot_stored(joins: bool, e: Event, gap: u16, old: Event) -> Event
+// What is stored in the slot after the last event: the event with its gap if it joins the queue, else what stood there.
+fn event_stored(joins: bool, e: Event, gap: u16, old: Event) -> Event
     ensures { λ r. ⌜ r ≡ cond joins (withGap e gap) old ⌝ }
 {
     if joins {
-        let mut sent = e;
-        sent.gap = gap;
-        sent
+        let mut queued = e;
+        queued.gap = gap;
+        queued
     } else {
         old
     }
 }
 
-// How many events the queue then holds.
-pub fn count_after(joins: bool, n: usize) -> usize
+// How many events the queue holds after one was posted.
+fn count_after(joins: bool, n: usize) -> usize
     requires { ⌜ n ≤ EVENTS ⌝ }
     ensures { λ r. ⌜ r ≡ cond joins (n + 1) n ⌝ }
 {
@@ -80,7 +80,7 @@ pub fn count_after(joins: bool, n: usize) -> usize
 }
 
 // The mark of lost events: none after one that joins, set by one that is lost.
-pub fn lost_after(joins: bool, loses: bool, lost: u64) -> u64
+fn lost_after(joins: bool, loses: bool, lost: u64) -> u64
     ensures { λ r. ⌜ r ≡ cond joins 0 (cond loses 1 lost) ⌝ }
 {
     if joins {
@@ -106,14 +106,14 @@ pub fn posted(q: Queue, e: Event, options: u32) -> Queue
     let at = (q.head % sizes::EVENTS + n) % sizes::EVENTS;
     let old = q.slots[at];
     let mut next = q;
-    let slot = slot_stored(joins, e, gap, old);
+    let slot = event_stored(joins, e, gap, old);
     next.slots[at] = slot;
     next.count = count_after(joins, n);
     next.lost = lost_after(joins, loses, q.lost);
     next
 }
 
-// The oldest event: before those that are left without it.
+// The oldest event: the queue's events are it, followed by those that are left when it is taken.
 pub fn oldest(q: Queue) -> Event
     requires { ⌜ QueueFits q ⌝ }
     requires { ⌜ 0 < q .count ⌝ }
@@ -124,7 +124,7 @@ pub fn oldest(q: Queue) -> Event
 }
 
 // The head, one place on where the oldest event is taken.
-pub fn head_after(takes: bool, head: usize) -> usize
+fn head_after(takes: bool, head: usize) -> usize
     ensures { λ r. ⌜ r ≡ cond takes ((head % EVENTS + 1) % EVENTS) head ⌝ }
 {
     if takes {
@@ -134,8 +134,8 @@ pub fn head_after(takes: bool, head: usize) -> usize
     }
 }
 
-// How many events the queue then holds.
-pub fn count_less(takes: bool, n: usize) -> usize
+// How many events the queue holds after the oldest was taken, if it was.
+fn count_less(takes: bool, n: usize) -> usize
     requires { ⌜ ((takes ≡ true) → (0 < n)) ⌝ }
     ensures { λ r. ⌜ r ≡ cond takes (n - 1) n ⌝ }
 {
@@ -144,6 +144,7 @@ pub fn count_less(takes: bool, n: usize) -> usize
 
 // The queue without its oldest event, where that is taken.
 pub fn popped(q: Queue, takes: bool) -> Queue
+    requires { ⌜ ((takes ≡ true) → QueueFits q) ⌝ }
     requires { ⌜ ((takes ≡ true) → (0 < q .count)) ⌝ }
     ensures { λ r. ⌜ Popped q takes r ⌝ }
 {

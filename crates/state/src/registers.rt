@@ -12,7 +12,7 @@ pub fn request_dropped(r: Registers) -> Registers
     next
 }
 
-// One more was denied for its uid: a permission violation.
+// One more request was denied for its uid: a permission violation.
 pub fn permission_violated(r: Registers) -> Registers
     ensures { λ after. ⌜ after ≡ permissionViolated r ⌝ }
 {
@@ -21,7 +21,7 @@ pub fn permission_violated(r: Registers) -> Registers
     next
 }
 
-// One more was denied for its kind: an operation violation.
+// One more request was denied for its kind: an operation violation.
 pub fn operation_violated(r: Registers) -> Registers
     ensures { λ after. ⌜ after ≡ operationViolated r ⌝ }
 {

@@ -1,9 +1,10 @@
 // Document 01, "Refusals": whether a state is sound. Every call on a target tests this first.
 //
-// In a state that calls made, one pass over the entries shows that their handles are distinct, since they ascend; the entry of a header
-// is looked for from where the last header's was found; and nothing is looked for where no header waits and no entry is retired. Any
-// other state gets the same answer, if more slowly. A part is copied where it is handed to a function with a loop, so no such
-// function is called in a loop.
+// The calls give handles that ascend, so that one pass over the entries shows them distinct; only where they do not ascend are all
+// pairs compared. The entry of a header is looked for from where the last header's was found, towards its handle. Nothing is looked
+// for where no header waits and no entry is retired. Other orders get the same answer more slowly.
+//
+// Entries and headers are passed by value, so a function that takes them is never called inside a loop.
 use crate::layout::Entries;
 use crate::layout::Header;
 use crate::layout::HeldEntry;
@@ -133,8 +134,8 @@ fn next_place(k: usize, count: usize) -> usize
     if next == count { 0 } else { next }
 }
 
-// Every header: its lengths are kept, and some entry holds it. The search begins where the last header's entry was found, and goes
-// around.
+// Every header: its lengths are kept, and some entry holds it. The search begins where the last header's entry was found: first down
+// to an entry with no higher handle, then up and around.
 fn headers_sound_in(es: Entries, us: Unexpected) -> bool
     requires { ⌜ EntriesFit es ⌝ }
     requires { ⌜ UnexpectedFit us ⌝ }
@@ -147,7 +148,15 @@ fn headers_sound_in(es: Entries, us: Unexpected) -> bool
         if !lengths_kept(h) {
             return false;
         }
+        // Here and not at the end, which `continue` skips.
         i += 1;
+        while 0 < k {
+            let x = es.slots[k];
+            if x.handle <= h.handle {
+                break;
+            }
+            k -= 1;
+        }
         let mut left = es.count;
         while 0 < left {
             let x = es.slots[k];
@@ -185,6 +194,7 @@ fn slots_kept_in(es: Entries, us: Unexpected) -> bool
     let mut k: usize = 0;
     'entries: while i < es.count {
         let x = es.slots[i];
+        // Here and not at the end, which `continue` skips.
         i += 1;
         if x.retired == 0 {
             continue 'entries;

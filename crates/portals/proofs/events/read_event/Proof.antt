@@ -1,9 +1,10 @@
-use mathlib.Core.Path.{ap}
+use mathlib.Core.Path.{ap, sym, _∙_}
 use mathlib.Core.Bool.{Bool, _&&_}
 use borrow.Author.Needs.{needs}
 use borrow.Author.Tests.{ltb-true}
 use lib.Dec.{ltb}
 use Rattle.state.proofs.ListLaws.{both}
+use Rattle.portals.proofs.AdmitLaws.{admitted-is}
 use Rattle.portals.proofs.PartCalls.{read-event-met}
 use Rattle.portals.proofs.events.read_event.Statement.{statement}
 use Rattle.portals.proofs.events.read_event.Tie as tie
@@ -18,7 +19,12 @@ is-admitted-requires : tie.Need-is-admitted-requires
 is-admitted-requires c κs = search needs
 
 popped-requires : tie.Need-popped-requires
-popped-requires c κs = λ e. ltb-true 0 _ (both (c .before .is-admitted .result) _ e .1)
+popped-requires c κs =
+    let i = c .before in
+    let m = i .before .before .before in (
+      λ e. m .admit .ensures .fits (admitted-is (m .admit .result) (sym (i .is-admitted .ensures) ∙ both (i .is-admitted .result) _ e .0)) .queue,
+      λ e. ltb-true 0 _ (both (i .is-admitted .result) _ e .1),
+    )
 
 returns : tie.Need-returns
 returns c =

@@ -79,8 +79,8 @@ mul-old c = search needs
 element-copy-out-old : tie.Need-element-copy-out-old
 element-copy-out-old c = search needs
 
-slot-stored-requires : tie.Need-slot-stored-requires
-slot-stored-requires c κs = search needs
+event-stored-requires : tie.Need-event-stored-requires
+event-stored-requires c κs = search needs
 
 mul-slot : tie.Need-mul-slot
 mul-slot c = search needs
@@ -100,7 +100,7 @@ returns c =
     let g = s .before .before in
     let k = g .before in
     let a = k .before .args in
-    rw (c .lost-after .ensures, c .before .count-after .ensures, s .slot-stored .ensures)
+    rw (c .lost-after .ensures, c .before .count-after .ensures, s .event-stored .ensures)
     (rw (g .gap-of .ensures, k .is-event-disabled .ensures)
     (post-holds (a .t1) (record { event = a .e; options = a .options }) _ (search needs)))
 
@@ -113,7 +113,7 @@ posted-spec =
     add-at
     mul-old
     element-copy-out-old
-    slot-stored-requires
+    event-stored-requires
     mul-slot
     element-set-from-slot
     count-after-requires
