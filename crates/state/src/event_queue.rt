@@ -6,9 +6,10 @@ use matching::events;
 use matching::events::EventKind;
 use matching::events::FailType;
 ghost use mathlib.Core.Path.{_≡_};
-ghost use mathlib.Core.Bool.{true, cond};
+ghost use mathlib.Core.Bool.{true, _&&_, not, cond};
 ghost use mathlib.Core.List.{_∷_};
 ghost use Prim.Native.Nat.{_+_, _-_, _%_, _≤_, _<_};
+ghost use lib.Dec.{ltb};
 ghost use Rattle.state.specs.Sizes.{EVENTS};
 ghost use Rattle.state.specs.Kinds.{eventKind, failType};
 ghost use Rattle.state.specs.View.{queueOf};
@@ -58,6 +59,20 @@ fn gap_of(lost: u64) -> u16
     if lost == 0 { 0 } else { 1 }
 }
 
+// An event joins a queue of n events: it is not disabled, and there is room.
+fn is_queued(disabled: bool, n: usize) -> bool
+    ensures { λ r. ⌜ r ≡ (not disabled && ltb n EVENTS) ⌝ }
+{
+    !disabled & (n < sizes::EVENTS)
+}
+
+// It is lost: it is not disabled, and there is no room.
+fn is_lost(disabled: bool, n: usize) -> bool
+    ensures { λ r. ⌜ r ≡ (not disabled && not (ltb n EVENTS)) ⌝ }
+{
+    !disabled & !(n < sizes::EVENTS)
+}
+
 // What is stored in the slot after the last event: the event with its gap if it joins the queue, else what stood there.
 fn event_stored(joins: bool, e: Event, gap: u16, old: Event) -> Event
     ensures { λ r. ⌜ r ≡ cond joins (withGap e gap) old ⌝ }
@@ -99,9 +114,8 @@ pub fn posted(q: Queue, e: Event, options: u32) -> Queue
 {
     let n = q.count;
     let disabled = is_event_disabled(e, options);
-    let room = n < sizes::EVENTS;
-    let joins = !disabled & room;
-    let loses = !disabled & !room;
+    let joins = is_queued(disabled, n);
+    let loses = is_lost(disabled, n);
     let gap = gap_of(q.lost);
     let at = (q.head % sizes::EVENTS + n) % sizes::EVENTS;
     let old = q.slots[at];
