@@ -13,12 +13,13 @@ use Rattle.state.specs.Sizes.{COUNTERS}
 use Rattle.state.specs.View.{View, viewOf}
 use Rattle.state.specs.Soundness.{isSound}
 use Rattle.state.specs.declared.layout.Target.{Target}
+use Rattle.state.proofs.SoundLaws.{good-both}
 use Rattle.portals.specs.Refusals.{Condition, goodArguments, unlessRefused}
 use Rattle.portals.specs.Admission.{admissionIf, admission, isAdmitted, Admits}
 use Rattle.portals.specs.CounterCalls.{badCounterArgument, counterTests}
 use Rattle.portals.specs.declared.admission.Admission.{Admission}
 use Rattle.portals.specs.declared.admission.Admission.the-variants as Admission
-use Rattle.portals.proofs.GuardLaws.{AllPassed, guard-cases, good-passed}
+use Rattle.portals.proofs.GuardLaws.{AllPassed, guard-cases}
 
 -- ## Admitted
 
@@ -62,4 +63,4 @@ pub counter-inside : (k : ℕ) (t : Target) (a : Admission) (found : BadArgument
 counter-inside k t a found stores is-bad admits is e =
     let admitted = sym (admits-for found (badCounterArgument k) t a is-bad admits) ∙ admitted-is a (sym is ∙ e) in
     ltb-true k COUNTERS
-    (good-passed BadArgument.Counter (ltb k COUNTERS) refl (admitted-passed (λ v. counterTests k) t admitted .0))
+    (good-both (ltb k COUNTERS) BadArgument.None BadArgument.Counter refl (admitted-passed (λ v. counterTests k) t admitted .0) .0)

@@ -1,6 +1,6 @@
 -- The laws of all calls: soundness is kept, the size is fixed, a refusal changes nothing, handles count up.
 use mathlib.Core.Path.{_≡_, refl, sym, _∙_}
-use mathlib.Core.Bool.{Bool, true, false, cond, true≢false, false≢true}
+use mathlib.Core.Bool.{Bool, true, false, true≢false, false≢true}
 use mathlib.Core.List.{List, [], _∷_}
 use Prim.Native.Nat.{ℕ, _≤_, _<_}
 use native.Mathlib.Omega.{arith}
@@ -8,14 +8,13 @@ use borrow.Author.Tests.{leb-true, ltb-true}
 use lib.Dec.{leb, ltb, eqb}
 use lib.ListN.{length, length-drop}
 use Rattle.matching.specs.Refusals.{noneBad}
-use Rattle.matching.specs.Request.{arrivalOf, ackGiven}
+use Rattle.matching.specs.Request.{ackGiven}
 use Rattle.matching.specs.declared.layout.Entry.{Entry}
 use Rattle.matching.specs.declared.layout.Request.{Request}
 use Rattle.matching.specs.declared.refusals.BadArgument.{BadArgument}
 use Rattle.matching.specs.declared.refusals.BadArgument.the-variants as BadArgument
 use Rattle.matching.specs.declared.request.Kind.{Kind}
 use Rattle.matching.specs.declared.request.Kind.the-variants as Kind
-use Rattle.matching.specs.declared.request.Arrival.{Arrival}
 use Rattle.state.specs.Sizes.{MEMORY, SLOTS, EVENTS, LAST-HANDLE}
 use Rattle.state.specs.View.{View, emptyView}
 use Rattle.state.specs.Events.{withoutOldest}
@@ -25,22 +24,25 @@ use Rattle.state.specs.declared.layout.Event.{Event}
 use Rattle.state.specs.declared.layout.Counter.{Counter}
 use Rattle.state.specs.declared.layout.CounterChange.{CounterChange}
 use Rattle.state.proofs.ListLaws.{both, cond-cases}
-use Rattle.state.proofs.SoundLaws.{Sound, sound-facts, facts-sound}
+use Rattle.state.proofs.SoundLaws.{Sound, sound-facts, facts-sound, good-both}
+use Rattle.state.proofs.KeptLaws.{counters-kept, queue-kept}
+use Rattle.requests.specs.Decision.{requestState}
+use Rattle.requests.specs.declared.plan.Plan.{Plan}
+use Rattle.requests.specs.declared.decision.Decision.{Decision}
+use Rattle.requests.specs.declared.decision.Decision.the-variants as Decision
+use Rattle.requests.proofs.RequestKept.{none-beyond}
 use Rattle.portals.specs.Refusals.{Condition, goodArguments}
 use Rattle.portals.specs.Answers.{Answer, MADE, PRIORITY, OVERFLOW, isRefused}
 use Rattle.portals.specs.Outcome.{Outcome, refusal, guarded}
 use Rattle.portals.specs.Making.{notMade, badSetting, new}
 use Rattle.portals.specs.EventRead.{oldestOf, readEvent}
 use Rattle.portals.specs.CounterCalls.{counterTests, setCounter, increment, counterDone}
-use Rattle.portals.specs.Request.{plan, decided, answerBy, requestState, requestTests, put, get}
+use Rattle.portals.specs.Request.{deliveryAnswer, carriedOut, decided, put, get}
 use Rattle.portals.specs.EarlyMessages.{Walk, appendBy, foundOnce, takenBy, appendTests, append, unlinkTests, unlink, lookedAt, deleted, walkFor, searched, searchTests, search}
 use Rattle.portals.specs.Calls.{Call, CallLaws, isAppend, Handles, linked, taken, refused, stateAfter, answerTo}
 use Rattle.portals.specs.Calls as calls
-use Rattle.portals.specs.declared.requests.Decision.{Decision}
-use Rattle.portals.specs.declared.requests.Decision.the-variants as Decision
-use Rattle.portals.proofs.GuardLaws.{guard-cases, good-passed}
-use Rattle.portals.proofs.KeptLaws.{counters-kept, queue-kept}
-use Rattle.portals.proofs.RequestKept.{none-beyond, put-sound, get-sound}
+use Rattle.portals.proofs.GuardLaws.{guard-cases}
+use Rattle.portals.proofs.RequestCalls.{delivery-answers, put-sound, get-sound}
 use Rattle.portals.proofs.EarlyKept.{append-sound, unlink-sound, search-sound}
 
 -- ## Soundness
@@ -77,7 +79,7 @@ empty-sound size h = record {
 }
 
 setting-fits : (c : Settings) → noneBad (badSetting c) ≡ true → c .size ≤ MEMORY
-setting-fits c e = leb-true (c .size) MEMORY (good-passed BadArgument.Size (leb (c .size) MEMORY) refl e)
+setting-fits c e = leb-true (c .size) MEMORY (good-both (leb (c .size) MEMORY) BadArgument.None BadArgument.Size refl e .0)
 
 pub new-sound : (c : Settings) → Sound (new c .state)
 unfolding new
@@ -96,6 +98,17 @@ pub record Orderly {B : Type 0} (v : View) (b : B) (o : Outcome View B) : Type 0
   pub fixed : o .state .size ≡ v .size
 
 -- so it is where what the call does is no refusal and keeps the size
+done-orderly : {B : Type 0} (v : View) (b : B) (does : Outcome View B)
+    → isRefused (does .answer) ≡ false
+    → does .state .size ≡ v .size
+    → Orderly v b does
+done-orderly v b does answers size = record {
+  state = λ e. absurd (false≢true (sym answers ∙ e));
+  buffer = λ e. absurd (false≢true (sym answers ∙ e));
+  fixed = size;
+}
+
+-- behind its tests too
 guarded-orderly : {B : Type 0} (v : View) (b : B) (tests : List Condition) (does : Outcome View B)
     → isRefused (does .answer) ≡ false
     → does .state .size ≡ v .size
@@ -103,12 +116,7 @@ guarded-orderly : {B : Type 0} (v : View) (b : B) (tests : List Condition) (does
 guarded-orderly v b tests does answers size =
     guard-cases (Orderly v b) (refusal v b) tests does
     (λ r. record { state = λ e. refl; buffer = λ e. refl; fixed = refl })
-    (λ passed.
-    record {
-      state = λ e. absurd (false≢true (sym answers ∙ e));
-      buffer = λ e. absurd (false≢true (sym answers ∙ e));
-      fixed = size;
-    })
+    (λ passed. done-orderly v b does answers size)
 
 pub oldest-answers : (events : List Event) → isRefused (oldestOf events) ≡ false
 oldest-answers [] = refl
@@ -140,40 +148,22 @@ module _ (v : View) where
       guarded-orderly v tt (searchTests v e) (searched v e w) refl
       (cond-cases (λ (s : View). s .size ≡ v .size) (eqb (e .list) 0) (lookedAt v e w) (deleted v e w) (λ look. refl) (λ delete. refl))
 
-  delivery-answers : (priority : Bool) (n offset ack : ℕ) → isRefused (cond priority (PRIORITY n offset ack) (OVERFLOW n offset ack)) ≡ false
-  delivery-answers true n offset ack = refl
-  delivery-answers false n offset ack = refl
-
-  request-answers : (portal : ℕ) (a : Arrival) (ack : ℕ) (d : Decision) → isRefused (answerBy v portal a ack d) ≡ false
-  request-answers portal a ack (Decision.Deliver k) =
-      let p = plan (v .entries) portal a k in
-      delivery-answers (eqb (p .entry .entry .list) 0) (p .message .accepted) (p .offset) (ackGiven (p .entry .entry .options) (a .kind) ack)
-  request-answers portal a ack Decision.Drop = refl
-  request-answers portal a ack Decision.DenyPermission = refl
-  request-answers portal a ack Decision.DenyOperation = refl
-
-  -- a request keeps the size and the last handle
-  request-rest : (portal : ℕ) (a : Arrival) (d : Decision) → (requestState v portal a d .size ≡ v .size) × (requestState v portal a d .last ≡ v .last)
-  request-rest portal a (Decision.Deliver k) = (refl, refl)
-  request-rest portal a Decision.Drop = (refl, refl)
-  request-rest portal a Decision.DenyPermission = (refl, refl)
-  request-rest portal a Decision.DenyOperation = (refl, refl)
+  -- a request that is refused leaves all as it was; every other decision gives an answer that is no refusal
+  carried-orderly : (q : Request) (kind : Kind) (moved : Plan → List ℕ) (lent : List ℕ) (d : Decision)
+      → Orderly v lent (carriedOut v q kind moved lent d)
+  carried-orderly q kind moved lent (Decision.Refuse r) = record { state = λ e. refl; buffer = λ e. refl; fixed = refl }
+  carried-orderly q kind moved lent Decision.Drop = done-orderly v lent _ refl refl
+  carried-orderly q kind moved lent Decision.DenyPermission = done-orderly v lent _ refl refl
+  carried-orderly q kind moved lent Decision.DenyOperation = done-orderly v lent _ refl refl
+  carried-orderly q kind moved lent (Decision.Deliver p) = done-orderly v lent _ (delivery-answers kind (q .ack) p) refl
 
   put-orderly : (memory : List ℕ) (q : Request) (payload : List ℕ) → Orderly v memory (put v memory q payload)
   unfolding put
-  put-orderly memory q payload =
-      let a = arrivalOf q Kind.Put (length payload) in
-      guarded-orderly v memory (requestTests v memory q (length payload)) _
-      (request-answers (q .portal) a (q .ack) (decided v q a))
-      (request-rest (q .portal) a (decided v q a) .0)
+  put-orderly memory q payload = carried-orderly q Kind.Put _ memory (decided v (length memory) q Kind.Put (length payload))
 
   get-orderly : (memory : List ℕ) (q : Request) (reply : List ℕ) → Orderly v reply (get v memory q reply)
   unfolding get
-  get-orderly memory q reply =
-      let a = arrivalOf q Kind.Get (length reply) in
-      guarded-orderly v reply (requestTests v memory q (length reply)) _
-      (request-answers (q .portal) a (q .ack) (decided v q a))
-      (request-rest (q .portal) a (decided v q a) .0)
+  get-orderly memory q reply = carried-orderly q Kind.Get _ reply (decided v (length memory) q Kind.Get (length reply))
 
   read-event-orderly : Orderly v tt (readEvent v)
   unfolding readEvent
@@ -241,6 +231,14 @@ same-last : {B : Type 0} (v : View) (b : B) (tests : List Condition) (does : Out
 same-last v b tests does h =
     guard-cases (λ (o : Outcome View _). o .state .last ≡ v .last) (refusal v b) tests does (λ r. refl) (λ passed. h)
 
+-- a request keeps it, whatever is decided
+request-last : (v : View) (d : Decision) → requestState v d .last ≡ v .last
+request-last v (Decision.Refuse r) = refl
+request-last v Decision.Drop = refl
+request-last v Decision.DenyPermission = refl
+request-last v Decision.DenyOperation = refl
+request-last v (Decision.Deliver p) = refl
+
 last-kept : (v : View) (memory : List ℕ) (c : Call) → isAppend c ≡ false → stateAfter v memory c .last ≡ v .last
 unfolding unlink search put get readEvent setCounter increment
 last-kept v memory (calls.append e) h = absurd (true≢false h)
@@ -249,12 +247,8 @@ last-kept v memory (calls.search e) h =
     let w = walkFor e (v .headers) in
     same-last v tt (searchTests v e) (searched v e w)
     (cond-cases (λ (s : View). s .last ≡ v .last) (eqb (e .list) 0) (lookedAt v e w) (deleted v e w) (λ look. refl) (λ delete. refl))
-last-kept v memory (calls.put q payload) h =
-    let a = arrivalOf q Kind.Put (length payload) in
-    same-last v memory (requestTests v memory q (length payload)) _ (request-rest v (q .portal) a (decided v q a) .1)
-last-kept v memory (calls.get q reply) h =
-    let a = arrivalOf q Kind.Get (length reply) in
-    same-last v reply (requestTests v memory q (length reply)) _ (request-rest v (q .portal) a (decided v q a) .1)
+last-kept v memory (calls.put q payload) h = request-last v (decided v (length memory) q Kind.Put (length payload))
+last-kept v memory (calls.get q reply) h = request-last v (decided v (length memory) q Kind.Get (length reply))
 last-kept v memory calls.readEvent h = refl
 last-kept v memory (calls.setCounter x) h = same-last v tt (counterTests (x .counter)) _ refl
 last-kept v memory (calls.increment x) h = same-last v tt (counterTests (x .counter)) _ refl

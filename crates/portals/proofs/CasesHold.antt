@@ -15,9 +15,12 @@ use Rattle.matching.specs.declared.request.Arrival.{Arrival}
 use Rattle.state.specs.Soundness.{soundView}
 use Rattle.state.specs.Events.{post}
 use Rattle.state.specs.Counters.{counted}
+use Rattle.requests.specs.Choice.{choose}
+use Rattle.requests.specs.Plan.{message}
+use Rattle.requests.specs.Decision.{decide}
 use Rattle.portals.specs.EventRead.{readEvent}
 use Rattle.portals.specs.CounterCalls.{setCounter, increment, readCounter}
-use Rattle.portals.specs.Request.{choose, decide, message, put}
+use Rattle.portals.specs.Request.{decided, put}
 use Rattle.portals.specs.EarlyMessages.{walkFor, takenBy, append}
 use Rattle.portals.specs.BenchCases.{AllHold, done, _then_, table}
 
@@ -31,7 +34,7 @@ never-unlinks e local a free once =
     rw (once, le-ltb (e .length - localAfter e local a) (e .minfree) (omega arith)) (and-false (isSet (e .options) MANAGE-LOCAL))
 
 pub cases-hold : AllHold table
-unfolding badEntryArgument badRequestArgument offsetUsed available bitsAgree allowsLength matches verdictOn accepted place localAfter unlinks ackGiven takesHeaders fits disabled amount soundView post readEvent counted setCounter increment readCounter choose decide message put walkFor takenBy append
+unfolding badEntryArgument badRequestArgument offsetUsed available bitsAgree allowsLength matches verdictOn accepted place localAfter unlinks ackGiven takesHeaders fits disabled amount soundView post readEvent counted setCounter increment readCounter choose decide message decided put walkFor takenBy append
 cases-hold =
     refl
     then refl

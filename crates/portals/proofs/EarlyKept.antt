@@ -21,10 +21,10 @@ use Rattle.state.specs.declared.layout.HeldEntry.{HeldEntry}
 use Rattle.state.specs.declared.layout.Header.{Header}
 use Rattle.state.proofs.ListLaws.{both, joined, or-left, or-right, cond-cases, every-join, every-imply, every-imply-none, every-selected, Part, part-all, part-select, part-selectNot, part-withoutFirst, part-length, part-every, any-select, any-withoutFirst, any-join, join-fits}
 use Rattle.state.proofs.SoundLaws.{Sound, entry-facts, facts-entry, header-kept, distinct-part, distinct-join, handle-new}
+use Rattle.state.proofs.KeptLaws.{Held, held-kept, counters-kept, queue-kept, post-fits, post-all-fits}
 use Rattle.portals.specs.Outcome.{refusal}
 use Rattle.portals.specs.EarlyMessages.{fitsHeader, Walk, walk, walkFor, usesOnce, foundOnce, handOutEvents, handedOut, takenBy, tookAll, nextHandle, newEntry, linked, appendBy, appendTests, append, unlinkTests, unlink, closingEvents, lookedAt, deleted, searchTests, search}
 use Rattle.portals.proofs.GuardLaws.{guard-cases}
-use Rattle.portals.proofs.KeptLaws.{Held, held-kept, counters-kept, queue-kept, post-fits, post-all-fits}
 
 -- ## The walk
 

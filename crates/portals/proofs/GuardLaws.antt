@@ -30,11 +30,3 @@ unless-map f refuse [] does = refl
 unless-map f refuse (c ∷ cs) does =
     cond-map f (c .passed) (unlessRefused refuse cs does) (refuse (c .refusal))
     ∙ ap (λ x. cond (c .passed) x (f (refuse (c .refusal)))) (unless-map f refuse cs does)
-
--- a call whose one argument is tested, and is not bad, passed that test
-pub good-passed : (argument : BadArgument) (passed : Bool)
-    → noneBad argument ≡ false
-    → noneBad (firstBad (record { passed = passed; argument = argument } ∷ [])) ≡ true
-    → passed ≡ true
-good-passed argument true bad e = refl
-good-passed argument false bad e = sym bad ∙ e

@@ -1,9 +1,9 @@
 pub mod GuardLaws
-pub mod KeptLaws
-pub mod RequestKept
+pub mod RequestCalls
 pub mod EarlyKept
 pub mod CallLaws
 pub mod AdmitLaws
 pub mod MetLaws
 pub mod PartCalls
 pub mod CasesHold
+pub mod RequestMet

@@ -9,8 +9,8 @@ use Rattle.state.specs.View.{View, viewOf}
 use Rattle.state.specs.Soundness.{soundView, countsKept, isSound, sound, unsound, seen}
 use Rattle.state.specs.Parts.{TargetFits}
 use Rattle.state.specs.declared.layout.Target.{Target}
-use Rattle.state.proofs.ListLaws.{both, joined}
-use Rattle.state.proofs.SoundLaws.{Sound, sound-facts, facts-sound}
+use Rattle.state.proofs.ListLaws.{joined}
+use Rattle.state.proofs.SoundLaws.{Sound, facts-sound, target-sound}
 use Rattle.portals.specs.Refusals.{Condition, unlessRefused}
 use Rattle.portals.specs.Admission.{admissionIf, admission, byAdmission}
 use Rattle.portals.specs.Answers.{Answer, refused, isRefused}
@@ -25,7 +25,7 @@ pub seen-sound : (t : Target) → isSound t ≡ true → seen t ≡ sound (viewO
 unfolding seen
 seen-sound t e = rw e
 
-seen-unsound : (t : Target) → isSound t ≡ false → seen t ≡ unsound t
+pub seen-unsound : (t : Target) → isSound t ≡ false → seen t ≡ unsound t
 unfolding seen
 seen-unsound t e = rw e
 
@@ -33,10 +33,6 @@ seen-unsound t e = rw e
 pub sound-joined : (t : Target) → countsKept t ≡ true → soundView (viewOf t) ≡ true → isSound t ≡ true
 unfolding isSound
 sound-joined t a b = joined (countsKept t) (soundView (viewOf t)) a b
-
-pub sound-view : (t : Target) → isSound t ≡ true → soundView (viewOf t) ≡ true
-unfolding isSound
-sound-view t e = both (countsKept t) (soundView (viewOf t)) e .1
 
 -- where all parts fit, the counts are kept
 pub fits-counts : (t : Target) → TargetFits t → countsKept t ≡ true
@@ -121,7 +117,7 @@ module _ {B : Type 0} (call does : View → Outcome View B) (tests : View → Li
       let v = viewOf t in
       let by : call v ≡ does v = call-by v Admission.Admitted e in
       done-met call t lent answer t′ left (does v) h by
-      (sym (ap (λ (o : Outcome View B). soundView (o .state)) by) ∙ facts-sound (call v .state) (kept v (sound-facts v (sound-view t h))))
+      (sym (ap (λ (o : Outcome View B). soundView (o .state)) by) ∙ facts-sound (call v .state) (kept v (target-sound t h)))
       ending
   met-if t t′ left answer true h (Admission.Refused r) e ending =
       refused-met call t lent answer t′ left r h (call-by (viewOf t) (Admission.Refused r) e) ending

@@ -12,14 +12,15 @@ use Rattle.state.specs.Soundness.{soundView}
 use Rattle.state.specs.declared.layout.Settings.{Settings}
 use Rattle.state.specs.declared.layout.CounterChange.{CounterChange}
 use Rattle.state.specs.declared.layout.CounterTest.{CounterTest}
+use Rattle.requests.specs.Decision.{decide}
+use Rattle.requests.specs.declared.decision.Decision.{Decision}
+use Rattle.requests.specs.declared.decision.Decision.the-variants as Decision
 use Rattle.portals.specs.Answers.{Answer, REFUSED, LINKED, TAKEN, isRefused}
 use Rattle.portals.specs.Making as making
 use Rattle.portals.specs.EventRead as events
 use Rattle.portals.specs.CounterCalls as counters
 use Rattle.portals.specs.Request as request
 use Rattle.portals.specs.EarlyMessages as early
-use Rattle.portals.specs.declared.requests.Decision.{Decision}
-use Rattle.portals.specs.declared.requests.Decision.the-variants as Decision
 
 pub data Call : Type 0 where
   append : Entry → Call
@@ -108,7 +109,7 @@ pub record CallLaws : Type 0 where
   pub beyond : (v : View) (portal : ℕ) (a : Arrival)
       → soundView v ≡ true
       → 7 < portal
-      → request.decide (v .entries) (v .headers) portal a ≡ Decision.Drop
+      → decide (v .entries) (v .headers) portal a ≡ Decision.Drop
   -- "Handles count up from 1 .., never twice.": append gives the next one or none, and no other call touches the last one given
   pub next : (v : View) (e : Entry) → Handles (v .last) (early.append v e .answer) (early.append v e .state .last)
   pub lastKept : (v : View) (memory : List ℕ) (c : Call) → isAppend c ≡ false → stateAfter v memory c .last ≡ v .last

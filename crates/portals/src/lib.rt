@@ -6,5 +6,5 @@ pub mod counters;
 pub mod events;
 pub mod laws;
 pub mod making;
+pub mod put_get;
 pub mod registers;
-pub mod requests;

@@ -5,3 +5,4 @@ pub mod TurnLaws
 pub mod AroundLaws
 pub mod HandleLaws
 pub mod SoundLaws
+pub mod KeptLaws

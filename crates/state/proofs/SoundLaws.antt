@@ -1,14 +1,17 @@
 -- Soundness as facts, one for each thing that document 01 asks, and what keeps each of them.
 use mathlib.Core.Path.{_≡_, refl, sym, _∙_}
-use mathlib.Core.Bool.{Bool, true, false, _&&_, not, and-true, and-false}
+use mathlib.Core.Bool.{Bool, true, false, _&&_, not, cond, false≢true, and-true, and-false}
 use mathlib.Core.List.{List, [], _∷_, _++_}
-use Prim.Native.Nat.{ℕ, zero, suc, _%_, _≤_, _<_}
+use Prim.Native.Nat.{ℕ, zero, suc, _+_, _^_, _%_, _≤_, _<_}
 use native.Mathlib.Omega.{arith}
 use borrow.Author.Tests.{not-true, leb-true, le-leb, eqb-false, eq-eqb, ne-eqb}
-use lib.Dec.{eqb, leb}
+use lib.Dec.{eqb, leb, ltb}
 use lib.ListN.{length, take, drop, set, getD, length-take}
 use Rattle.matching.specs.Refusals.{noneBad}
-use Rattle.matching.specs.Entry.{badEntryArgument}
+use Rattle.matching.specs.Entry.{isCounterOrNone, badEntryArgument}
+use Rattle.matching.specs.declared.layout.Entry.{Entry}
+use Rattle.matching.specs.declared.refusals.BadArgument.{BadArgument}
+use Rattle.matching.specs.declared.refusals.BadArgument.the-variants as BadArgument
 use Rattle.state.specs.Lists.{every, any}
 use Rattle.state.specs.Sizes.{MEMORY, SLOTS, HEADERS, EVENTS}
 use Rattle.state.specs.View.{View, entriesOf, headersOf, viewOf, hasHandle}
@@ -75,6 +78,16 @@ counts-facts t e =
 taken-fits : {A : Type 0} (n size : ℕ) (l : List A) → n ≤ size → leb (length (take n l)) size ≡ true
 taken-fits n size l h = le-leb (length (take n l)) size (simp length-take (omega arith))
 
+-- ## A sound state
+
+pub sound-parts : (t : Target) → isSound t ≡ true → (countsKept t ≡ true) × (soundView (viewOf t) ≡ true)
+unfolding isSound
+sound-parts t e = both (countsKept t) (soundView (viewOf t)) e
+
+-- what it holds is sound
+pub target-sound : (t : Target) → isSound t ≡ true → Sound (viewOf t)
+target-sound t e = sound-facts (viewOf t) (sound-parts t e .1)
+
 -- ## One entry
 
 pub record EntryFacts (size last : ℕ) (x : HeldEntry) : Type 0 where
@@ -94,6 +107,29 @@ entry-facts size last x e =
       good = b .1;
       local = a .1;
     }
+
+-- where no argument is bad the first test is passed, and no argument is bad by the rest
+pub good-both : (passed : Bool) (rest argument : BadArgument)
+    → noneBad argument ≡ false
+    → noneBad (cond passed rest argument) ≡ true
+    → (passed ≡ true) × (noneBad rest ≡ true)
+good-both true rest argument bad e = (refl, e)
+good-both false rest argument bad e = absurd (false≢true (sym bad ∙ e))
+
+-- an entry that passes append's tests is at portal 7 or below
+pub portal-fits : (e : Entry) (size : ℕ) → noneBad (badEntryArgument e size) ≡ true → e .portal ≤ 7
+unfolding badEntryArgument
+portal-fits e size h = leb-true (e .portal) 7 (good-both (leb (e .portal) 7) _ BadArgument.Portal refl h .0)
+
+-- and has its region in the memory
+pub region-fits : (e : Entry) (size : ℕ) → noneBad (badEntryArgument e size) ≡ true → e .start + e .length ≤ size
+unfolding badEntryArgument
+region-fits e size h =
+    let p = good-both (leb (e .portal) 7) _ BadArgument.Portal refl h in
+    let l = good-both (leb (e .list) 1) _ BadArgument.ListOrMode refl (p .1) in
+    let c = good-both (isCounterOrNone (e .counter)) _ BadArgument.Counter refl (l .1) in
+    let o = good-both (ltb (e .options) (2 ^ 15)) _ BadArgument.Option refl (c .1) in
+    leb-true (e .start + e .length) size (good-both (leb (e .start + e .length) size) _ BadArgument.Region refl (o .1) .0)
 
 pub facts-entry : (size last : ℕ) (x : HeldEntry) → EntryFacts size last x → entrySound size last x ≡ true
 facts-entry size last x f = rw (le-leb 1 (x .handle) (f .least), le-leb (x .handle) last (f .most), f .good, f .local)

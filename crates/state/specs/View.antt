@@ -4,7 +4,7 @@ use mathlib.Core.Bool.{Bool, _&&_, not}
 use mathlib.Core.List.{List, []}
 use Prim.Native.Nat.{ℕ, _%_}
 use lib.Dec.{eqb}
-use lib.ListN.{take, replicate}
+use lib.ListN.{take, getD, replicate}
 use Rattle.state.specs.Lists.{ringOf}
 use Rattle.state.specs.Sizes.{SLOTS, HEADERS, EVENTS, COUNTERS}
 use Rattle.state.specs.declared.layout.HeldEntry.{HeldEntry}
@@ -92,6 +92,10 @@ zeroEntry = record {
   local = 0;
   retired = 0;
 }
+
+-- the entry at a place; beyond the end, where none is, zeros
+abbrev pub entryAt : List HeldEntry → ℕ → HeldEntry
+entryAt entries k = getD entries k zeroEntry
 
 abbrev pub zeroHeader : Header
 zeroHeader = record {

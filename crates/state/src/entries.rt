@@ -7,8 +7,17 @@ ghost use Prim.Native.Nat.{_<_};
 ghost use lib.ListN.{set};
 ghost use Rattle.state.specs.Sizes.{SLOTS};
 ghost use Rattle.state.specs.Lists.{removeAt, firstFrom, placeOr};
-ghost use Rattle.state.specs.View.{entriesOf, isLinkedAs};
+ghost use Rattle.state.specs.View.{entriesOf, entryAt, isLinkedAs};
 ghost use Rattle.state.specs.Parts.{EntriesFit, EntriesHold};
+
+// The entry at a place.
+pub fn entry_at(es: Entries, at: usize) -> HeldEntry
+    requires { ⌜ EntriesFit es ⌝ }
+    requires { ⌜ at < es .count ⌝ }
+    ensures { λ r. ⌜ r ≡ entryAt (entriesOf es) at ⌝ }
+{
+    es.slots[at]
+}
 
 // One more entry, linked last.
 pub fn entry_added(es: Entries, x: HeldEntry) -> Entries

@@ -1,54 +1,25 @@
 // The event queue: a ring of 64 slots that begins at its head, which is read modulo 64.
+use crate::kinds;
 use crate::layout::Event;
 use crate::layout::Queue;
 use crate::sizes;
 use matching::events;
-use matching::events::EventKind;
-use matching::events::FailType;
 ghost use mathlib.Core.Path.{_≡_};
 ghost use mathlib.Core.Bool.{true, _&&_, not, cond};
 ghost use mathlib.Core.List.{_∷_};
 ghost use Prim.Native.Nat.{_+_, _-_, _%_, _≤_, _<_};
 ghost use lib.Dec.{ltb};
 ghost use Rattle.state.specs.Sizes.{EVENTS};
-ghost use Rattle.state.specs.Kinds.{eventKind, failType};
 ghost use Rattle.state.specs.View.{queueOf};
 ghost use Rattle.state.specs.Parts.{QueueFits, QueueHolds, Popped};
 ghost use Rattle.state.specs.Events.{isDisabled, withGap, gapOf, post, withoutOldest};
-
-// The kind that a number stands for.
-fn event_kind(n: u32) -> EventKind
-    ensures { λ r. ⌜ r ≡ eventKind n ⌝ }
-{
-    match n {
-        0 => EventKind::Link,
-        1 => EventKind::Put,
-        2 => EventKind::Get,
-        3 => EventKind::PutOverflow,
-        4 => EventKind::GetOverflow,
-        5 => EventKind::Search,
-        6 => EventKind::AutoUnlink,
-        _ => EventKind::AutoFree,
-    }
-}
-
-// The fail type that a number stands for.
-fn fail_type(n: u16) -> FailType
-    ensures { λ r. ⌜ r ≡ failType n ⌝ }
-{
-    if n == 0 {
-        FailType::Ok
-    } else {
-        FailType::NoMatch
-    }
-}
 
 // The options disable the event.
 fn is_event_disabled(e: Event, options: u32) -> bool
     ensures { λ r. ⌜ r ≡ isDisabled (record { event = e; options = options }) ⌝ }
 {
-    let kind = event_kind(e.kind);
-    let fail = fail_type(e.fail);
+    let kind = kinds::event_kind(e.kind);
+    let fail = kinds::fail_type(e.fail);
     events::is_disabled(options, kind, fail)
 }
 

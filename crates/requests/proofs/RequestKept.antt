@@ -1,6 +1,6 @@
 -- A request leaves a sound state sound.
-use mathlib.Core.Path.{_≡_, refl, sym, _∙_, subst}
-use mathlib.Core.Bool.{Bool, true, false, _&&_, _||_, not, cond, true≢false, false≢true}
+use mathlib.Core.Path.{_≡_, refl, sym, _∙_}
+use mathlib.Core.Bool.{Bool, true, false, _&&_, _||_, not, cond, true≢false}
 use mathlib.Core.List.{List, [], _∷_, _++_}
 use mathlib.Core.Option.{none}
 use Prim.Native.Nat.{ℕ, _+_, _≤_, _<_}
@@ -9,38 +9,32 @@ use borrow.Author.Tests.{not-true, ltb-true, leb-true, le-leb, eqb-true, eq-eqb}
 use lib.Dec.{eqb, leb, ltb}
 use lib.ListN.{length, set, length-set}
 use Rattle.matching.specs.Bits.{isSet}
-use Rattle.matching.specs.Refusals.{noneBad}
-use Rattle.matching.specs.Entry.{ANY, MANAGE-LOCAL, badEntryArgument}
-use Rattle.matching.specs.Request.{badRequestArgument, arrivalOf, verdictOn, accepted, place, localAfter, unlinks}
+use Rattle.matching.specs.Entry.{MANAGE-LOCAL}
+use Rattle.matching.specs.Request.{verdictOn, accepted, place, localAfter, unlinks}
 use Rattle.matching.specs.EarlyMessages.{takesHeaders}
-use Rattle.matching.proofs.RequestLaws.{accepted-requested, place-start, place-end, local-stays, local-length}
-use Rattle.matching.specs.declared.layout.Entry.{Entry}
-use Rattle.matching.specs.declared.layout.Request.{Request}
-use Rattle.matching.specs.declared.refusals.BadArgument.{BadArgument}
-use Rattle.matching.specs.declared.refusals.BadArgument.the-variants as BadArgument
-use Rattle.matching.specs.declared.request.Kind.{Kind}
-use Rattle.matching.specs.declared.request.Kind.the-variants as Kind
 use Rattle.matching.specs.declared.request.Arrival.{Arrival}
 use Rattle.matching.specs.declared.request.Verdict.{Verdict}
 use Rattle.matching.specs.declared.request.Verdict.the-variants as Verdict
+use Rattle.matching.proofs.RequestLaws.{accepted-requested, place-start, place-end, local-stays, local-length}
 use Rattle.state.specs.Lists.{every, any, firstFrom, removeAt}
 use Rattle.state.specs.Sizes.{MEMORY, HEADERS}
-use Rattle.state.specs.View.{View, isLinked, zeroEntry, withEntries, withHeaders, withQueue}
+use Rattle.state.specs.View.{View, isLinked, zeroEntry, entryAt, withEntries, withHeaders, withQueue}
 use Rattle.state.specs.Soundness.{localKept, entrySound, waitsIn, holds, bytesInside, lengthsKept, headerSound, keepsSlot}
 use Rattle.state.specs.Events.{postAll}
 use Rattle.state.specs.declared.layout.HeldEntry.{HeldEntry}
 use Rattle.state.specs.declared.layout.Header.{Header}
-use Rattle.state.proofs.ListLaws.{both, joined, never, or-left, or-right, or-map, or-other, every-at, every-set, every-join, every-imply, part-removeAt, part-length, part-every, any-at, any-set, any-removeAt, any-join, any-last, join-fits, get-set, Found, first-cases, first-none}
-use Rattle.state.proofs.SoundLaws.{Sound, entry-facts, facts-entry, header-kept, distinct-part, distinct-set}
-use Rattle.portals.specs.Outcome.{refusal}
-use Rattle.portals.specs.Request.{isIn, isCandidate, orElse, choose, entryAt, hasRoom, decideBy, decideAt, decideOn, decide, message, planFor, plan, requestEvents, entryAfter, entriesAfter, headersAfter, countersAfter, delivered, requestState, requestTests, put, get}
-use Rattle.portals.specs.declared.requests.Choice.{Choice}
-use Rattle.portals.specs.declared.requests.Choice.the-variants as Choice
-use Rattle.portals.specs.declared.requests.Decision.{Decision}
-use Rattle.portals.specs.declared.requests.Decision.the-variants as Decision
-use Rattle.portals.specs.declared.requests.Plan.{Plan}
-use Rattle.portals.proofs.GuardLaws.{guard-cases}
-use Rattle.portals.proofs.KeptLaws.{Held, held-kept, counters-kept, registers-kept, queue-kept, post-all-fits}
+use Rattle.state.proofs.ListLaws.{cond-cases, both, joined, never, or-left, or-right, or-map, or-other, every-at, every-set, every-join, every-imply, part-removeAt, part-length, part-every, any-at, any-set, any-removeAt, any-join, any-last, join-fits, get-set, Found, first-none}
+use Rattle.state.proofs.SoundLaws.{Sound, entry-facts, facts-entry, header-kept, distinct-part, distinct-set, portal-fits}
+use Rattle.state.proofs.KeptLaws.{Held, held-kept, counters-kept, registers-kept, queue-kept, post-all-fits}
+use Rattle.requests.specs.Choice.{isIn, isCandidate, choose}
+use Rattle.requests.specs.Plan.{message, planFor, plan, requestEvents, entryAfter, entriesAfter, headersAfter, countersAfter, delivered}
+use Rattle.requests.specs.Decision.{hasRoom, decideBy, decideAt, decideOn, decide, requestState}
+use Rattle.requests.specs.declared.choice.Choice.{Choice}
+use Rattle.requests.specs.declared.choice.Choice.the-variants as Choice
+use Rattle.requests.specs.declared.plan.Plan.{Plan}
+use Rattle.requests.specs.declared.decision.Decision.{Decision}
+use Rattle.requests.specs.declared.decision.Decision.the-variants as Decision
+use Rattle.requests.proofs.ChoiceLaws.{choose-cases}
 
 -- ## What a decision to deliver says of the entry at its place
 
@@ -58,47 +52,32 @@ at-portal portal list a x e =
 
 module _ (entries : List HeldEntry) (headers : List Header) (portal : ℕ) (a : Arrival) (P : Decision → Type 0) (drop : P Decision.Drop)
     (permission : P Decision.DenyPermission) (operation : P Decision.DenyOperation)
-    (deliver : (k : ℕ) → Chosen entries headers portal k → P (Decision.Deliver k)) where
+    (deliver : (k : ℕ) → Chosen entries headers portal k → P (Decision.Deliver (plan entries portal a k))) where
   judged : (list k : ℕ) → Found (isCandidate portal list a) entries zeroEntry k → (verdict : Verdict) (room : Bool)
       → hasRoom headers (entryAt entries k) ≡ room
-      → P (decideBy verdict room k)
+      → P (decideBy verdict room (plan entries portal a k))
   judged list k f Verdict.PermissionViolation room q = permission
   judged list k f Verdict.OperationViolation room q = operation
   judged list k f Verdict.Granted false q = drop
   judged list k f Verdict.Granted true q =
       deliver k (record { inside = f .inside; portalOf = at-portal portal list a (entryAt entries k) (f .passes); room = q })
 
-  at-place : (list k : ℕ) → Found (isCandidate portal list a) entries zeroEntry k → P (decideAt entries headers a k)
+  at-place : (list k : ℕ) → Found (isCandidate portal list a) entries zeroEntry k → P (decideAt entries headers portal a k)
   at-place list k f = judged list k f (verdictOn (entryAt entries k .entry) a) (hasRoom headers (entryAt entries k)) refl
-
-  in-overflow : P (decideOn entries headers a (orElse Choice.Overflow (firstFrom (isCandidate portal 1 a) 0 entries) Choice.Nothing))
-  in-overflow =
-      first-cases (isCandidate portal 1 a) zeroEntry
-      (λ o. P (decideOn entries headers a (orElse Choice.Overflow o Choice.Nothing)))
-      0 entries drop
-      (λ at k e f. subst (λ (n : ℕ). P (decideAt entries headers a n)) (let same : k ≡ at = omega arith in same) (at-place 1 k f))
 
   -- what holds of a drop and of both denials, and of a delivery to an entry that was chosen, holds of the decision
   pub decide-cases : P (decide entries headers portal a)
-  unfolding decide choose
+  unfolding decide
   decide-cases =
-      first-cases (isCandidate portal 0 a) zeroEntry
-      (λ o. P (decideOn entries headers a (orElse Choice.Priority o (orElse Choice.Overflow (firstFrom (isCandidate portal 1 a) 0 entries) Choice.Nothing))))
-      0 entries in-overflow
-      (λ at k e f. subst (λ (n : ℕ). P (decideAt entries headers a n)) (let same : k ≡ at = omega arith in same) (at-place 0 k f))
+      choose-cases entries portal a (λ c. P (decideOn entries headers portal a c)) drop
+      (λ list k f.
+      cond-cases (λ c. P (decideOn entries headers portal a c)) (eqb list 0) (Choice.Priority k) (Choice.Overflow k)
+      (λ e. at-place list k f)
+      (λ e. at-place list k f))
 
 -- ## A portal above 7
 
--- an entry that passes append's tests is at portal 7 or below
-portal-fits : (e : Entry) (size : ℕ) → noneBad (badEntryArgument e size) ≡ true → e .portal ≤ 7
-unfolding badEntryArgument
-portal-fits e size h = leb-true (e .portal) 7 (by (leb (e .portal) 7) _ h)
-  where
-    by : (fits : Bool) (rest : BadArgument) → noneBad (cond fits rest BadArgument.Portal) ≡ true → fits ≡ true
-    by true rest h = refl
-    by false rest h = h
-
--- so none may be chosen above
+-- no entry of a sound state stands there
 elsewhere : (size last portal list : ℕ) (a : Arrival) (x : HeldEntry)
     → 7 < portal
     → entrySound size last x ≡ true
@@ -186,6 +165,14 @@ holds-none h x t = rw t (off (waitsIn x h && eqb (x .entry .portal) (h .portal))
     off true c = refl
     off false c = refl
 
+-- a header that an entry takes finds a place
+pub room-left : (headers : List Header) (x : HeldEntry) → hasRoom headers x ≡ true → takesHeaders (x .entry) ≡ true → length headers < HEADERS
+room-left headers x room t =
+    ltb-true (length headers) HEADERS
+    (or-other (not (takesHeaders (x .entry))) (ltb (length headers) HEADERS)
+    (λ n. true≢false (sym t ∙ not-true (takesHeaders (x .entry)) n))
+    room)
+
 -- ## The entries and headers after a delivery
 
 module _ (v : View) (sound : Sound v) (portal : ℕ) (a : Arrival) (k : ℕ)
@@ -253,14 +240,7 @@ module _ (v : View) (sound : Sound v) (portal : ℕ) (a : Arrival) (k : ℕ)
       (λ h. header-kept (v .entries) placed h (λ e. rw (any-set (holds h) (v .entries) k zeroEntry (entryAfter planned) refl) e))
       (sound .headers)
 
-  -- its header finds a place, names it, and waits in it
-  room-left : takesHeaders (it .entry) ≡ true → length (v .headers) < HEADERS
-  room-left t =
-      ltb-true (length (v .headers)) HEADERS
-      (or-other (not (takesHeaders (it .entry))) (ltb (length (v .headers)) HEADERS)
-      (λ n. true≢false (sym t ∙ not-true (takesHeaders (it .entry)) n))
-      (chosen .room))
-
+  -- its header names it, and waits in it
   named : takesHeaders (it .entry) ≡ true → any (holds its) placed ≡ true
   named t =
       let l = length-set (v .entries) k (entryAfter planned) in
@@ -277,7 +257,7 @@ module _ (v : View) (sound : Sound v) (portal : ℕ) (a : Arrival) (k : ℕ)
   joins : takesHeaders (it .entry) ≡ true → Held (v .size) (v .last) placed (v .headers ++ (its ∷ []))
   joins t =
       stays (v .headers ++ (its ∷ []))
-      (join-fits (v .headers) its HEADERS (room-left t))
+      (join-fits (v .headers) its HEADERS (room-left (v .headers) it (chosen .room) t))
       (every-join (headerSound placed) (v .headers) its waited
       (joined (any (holds its) placed) (lengthsKept its) (named t) (message-lengths it portal a size)))
       (λ x e. or-map (isLinked x) (any (waitsIn x) (v .headers)) (any (waitsIn x) (v .headers ++ (its ∷ [])))
@@ -310,42 +290,14 @@ module _ (v : View) (sound : Sound v) (portal : ℕ) (a : Arrival) (k : ℕ)
       (queue-kept w q (held-kept v (entriesAfter (v .entries) planned) (headersAfter (v .headers) planned) sound h)
       (post-all-fits (v .queue) (requestEvents planned) (sound .queued)))
 
--- ## The calls
+-- ## The state after the decision
 
 -- rules 3 to 7 on a sound state leave a sound one
 pub request-sound : (v : View) (portal : ℕ) (a : Arrival) → Sound v → a .requested ≤ MEMORY
-    → Sound (requestState v portal a (decide (v .entries) (v .headers) portal a))
+    → Sound (requestState v (decide (v .entries) (v .headers) portal a))
 request-sound v portal a s n =
-    decide-cases (v .entries) (v .headers) portal a (λ d. Sound (requestState v portal a d))
+    decide-cases (v .entries) (v .headers) portal a (λ d. Sound (requestState v d))
     (registers-kept v _ s)
     (registers-kept v _ s)
     (registers-kept v _ s)
     (λ k c. delivered-sound v s portal a k c n)
-
--- a request whose arguments are good asks for at most 65,536 bytes
-pub requested-fits : (q : Request) (n : ℕ) → noneBad (badRequestArgument q n) ≡ true → n ≤ MEMORY
-unfolding badRequestArgument
-requested-fits q n e =
-    leb-true n 65536 (by (not (eqb (q .nid) ANY || eqb (q .pid) ANY || eqb (q .uid) ANY)) (leb (q .ack) 3) (leb n 65536) e)
-  where
-    by : (identity ack fits : Bool)
-        → noneBad (cond identity (cond ack (cond fits BadArgument.None BadArgument.Size) BadArgument.Ack) BadArgument.Identity) ≡ true
-        → fits ≡ true
-    by true true true e = refl
-    by true true false e = e
-    by true false fits e = absurd (false≢true e)
-    by false ack fits e = absurd (false≢true e)
-
-pub put-sound : (v : View) (memory : List ℕ) (q : Request) (payload : List ℕ) → Sound v → Sound (put v memory q payload .state)
-unfolding put
-put-sound v memory q payload s =
-    guard-cases (λ o. Sound (o .state)) (refusal v memory) (requestTests v memory q (length payload)) _
-    (λ r. s)
-    (λ passed. request-sound v (q .portal) (arrivalOf q Kind.Put (length payload)) s (requested-fits q (length payload) (passed .1 .0)))
-
-pub get-sound : (v : View) (memory : List ℕ) (q : Request) (reply : List ℕ) → Sound v → Sound (get v memory q reply .state)
-unfolding get
-get-sound v memory q reply s =
-    guard-cases (λ o. Sound (o .state)) (refusal v reply) (requestTests v memory q (length reply)) _
-    (λ r. s)
-    (λ passed. request-sound v (q .portal) (arrivalOf q Kind.Get (length reply)) s (requested-fits q (length reply) (passed .1 .0)))

@@ -1,0 +1,5 @@
+pub mod ChoiceLaws
+pub mod RequestKept
+pub mod ReadyLaws
+pub mod DecisionLaws
+pub mod ByteLaws

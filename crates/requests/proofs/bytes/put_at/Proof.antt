@@ -1,0 +1,40 @@
+use mathlib.Core.Path.{_≡_}
+use Prim.Native.Nat.{_+_, _-_}
+use native.Mathlib.Omega.{arith}
+use borrow.Author.Needs.{needs}
+use Rattle.requests.proofs.ByteLaws.{part-overwritten}
+use Rattle.requests.proofs.bytes.put_at.Statement.{statement}
+use Rattle.requests.proofs.bytes.put_at.Tie as tie
+
+add-end : tie.Need-add-end
+add-end c = search needs
+
+sub-fill : tie.Need-sub-fill
+sub-fill c = search needs
+
+part-fill-start : tie.Need-part-fill-start
+part-fill-start c = search needs
+
+part-fill-end : tie.Need-part-fill-end
+part-fill-end c = search needs
+
+fill-requires : tie.Need-fill-requires
+fill-requires c κs = search needs
+
+same-length : tie.Need-same-length
+same-length c = search needs
+
+returns : tie.Need-returns
+returns c =
+    let a = c .before .before .before .before .before .before .args in
+    let part = c .before .before .fill in
+    let k : a .place + a .n - a .place ≡ a .n = omega arith in
+    rw k
+    (part-overwritten (a .place) (a .n) (a .memory .now) (a .payload .now) (part .last .0)
+    (omega arith)
+    (omega arith)
+    (rw k at (part .ensures)))
+
+pub put-at-spec : {M : Type 1} → statement M
+put-at-spec =
+    tie.close (tie.spec add-end sub-fill part-fill-start part-fill-end fill-requires same-length returns)
