@@ -1,27 +1,36 @@
--- Put and get leave a sound state sound.
-use mathlib.Core.Path.{_≡_, refl}
-use mathlib.Core.Bool.{true, _||_, not}
+-- What put and get decide: how, what it leaves, and what it lets them do.
+use mathlib.Core.Path.{_≡_, refl, _∙_}
+use mathlib.Core.Bool.{true, false, _||_, not}
 use mathlib.Core.List.{List}
-use Prim.Native.Nat.{ℕ, _≤_}
-use borrow.Author.Tests.{leb-true}
+use Prim.Native.Nat.{ℕ, _+_, _≤_, _<_}
+use borrow.Author.Tests.{leb-true, eq-eqb, ne-eqb}
 use lib.Dec.{eqb, leb}
 use lib.ListN.{length}
 use Rattle.matching.specs.Refusals.{noneBad}
 use Rattle.matching.specs.Entry.{ANY}
-use Rattle.matching.specs.Request.{badRequestArgument, arrivalOf}
+use Rattle.matching.specs.Request.{badRequestArgument, arrivalOf, ackGiven}
 use Rattle.matching.specs.declared.layout.Request.{Request}
+use Rattle.matching.specs.declared.refusals.Refusal.the-variants as Refusal
 use Rattle.matching.specs.declared.refusals.BadArgument.{BadArgument}
 use Rattle.matching.specs.declared.refusals.BadArgument.the-variants as BadArgument
 use Rattle.matching.specs.declared.request.Kind.{Kind}
 use Rattle.matching.specs.declared.request.Kind.the-variants as Kind
-use Rattle.state.specs.Sizes.{MEMORY}
+use Rattle.state.specs.Sizes.{MEMORY, HEADERS}
 use Rattle.state.specs.View.{View}
+use Rattle.state.specs.Soundness.{isSound}
+use Rattle.state.specs.Parts.{EntriesFit, UnexpectedFit, QueueFits}
+use Rattle.state.specs.declared.layout.Target.{Target}
+use Rattle.state.proofs.ListLaws.{cond-cases}
 use Rattle.state.proofs.SoundLaws.{Sound, good-both}
 use Rattle.requests.specs.Decision.{decide, requestState}
+use Rattle.requests.specs.Parts.{IfDelivered, Ready, Decides}
+use Rattle.requests.specs.declared.plan.Plan.{Plan}
 use Rattle.requests.specs.declared.decision.Decision.{Decision}
 use Rattle.requests.specs.declared.decision.Decision.the-variants as Decision
 use Rattle.requests.proofs.RequestKept.{request-sound}
-use Rattle.portals.specs.Request.{requestTests, decided, put, get}
+use Rattle.requests.proofs.DecisionLaws.{claim-follows}
+use Rattle.portals.specs.Answers.{Answer, PRIORITY, OVERFLOW, isRefused}
+use Rattle.portals.specs.Request.{deliveryAnswer, requestTests, decided, put, get, DecidedAs}
 use Rattle.portals.proofs.GuardLaws.{guard-cases}
 
 -- a request whose arguments are good asks for at most 65,536 bytes
@@ -58,3 +67,49 @@ delivery-answers kind ack p =
     (OVERFLOW (p .message .accepted) (p .offset) given)
     (λ priority. refl)
     (λ overflow. refl)
+
+-- ## How a decision is made
+
+module _ (t : Target) (lent : ℕ) (q : Request) (kind : Kind) (requested : ℕ) where
+  pub unsound-decided : isSound t ≡ false → DecidedAs t lent q kind requested (Decision.Refuse Refusal.BadState)
+  unsound-decided h = record { is = rw h; ready = tt }
+
+  module _ (h : isSound t ≡ true) where
+    pub memory-decided : (lent ≡ t .size → ⊥) → DecidedAs t lent q kind requested (Decision.Refuse Refusal.BadMemory)
+    unfolding decided
+    memory-decided differs = record { is = rw (h, ne-eqb lent (t .size) differs); ready = tt }
+
+    pub argument-decided : lent ≡ t .size
+        → noneBad (badRequestArgument q requested) ≡ false
+        → DecidedAs t lent q kind requested (Decision.Refuse Refusal.ArgInvalid)
+    unfolding decided
+    argument-decided same bad = record { is = rw (h, eq-eqb lent (t .size) same, bad); ready = tt }
+
+    -- by the rules, where every test is passed
+    pub rules-decided : (d : Decision) → lent ≡ t .size
+        → noneBad (badRequestArgument q requested) ≡ true
+        → Decides t (q .portal) (arrivalOf q kind requested) d
+        → DecidedAs t lent q kind requested d
+    unfolding decided
+    rules-decided d same good decides = record {
+      is = decides .is ∙ rw (h, eq-eqb lent (t .size) same, good);
+      ready = claim-follows (Ready t requested) (λ p. Ready t requested p × (lent ≡ t .size)) (λ p ready. (ready, same)) d (decides .ready);
+    }
+
+-- ## What a decision to deliver lets the parts and the bytes ask
+
+module _ (t : Target) (lent : ℕ) (q : Request) (kind : Kind) (requested : ℕ) (d : Decision) (decides : DecidedAs t lent q kind requested d) where
+  so : (Q : Plan → Type 0) → ((p : Plan) → Ready t requested p × (lent ≡ t .size) → Q p) → IfDelivered Q d
+  so Q follows = claim-follows (λ p. Ready t requested p × (lent ≡ t .size)) Q follows d (decides .ready)
+
+  pub bytes-asked : IfDelivered (λ p. (p .message .place + p .message .accepted ≤ lent) × (p .message .accepted ≤ requested)) d
+  bytes-asked = so _ (λ p h. (rw (h .1) (h .0 .bytes), h .0 .short))
+
+  pub entries-asked : IfDelivered (λ p. EntriesFit (t .entries) × (p .index < t .entries .count)) d
+  entries-asked = so _ (λ p h. (h .0 .fits .entries, h .0 .inside))
+
+  pub unexpected-asked : IfDelivered (λ p. UnexpectedFit (t .unexpected) × (p .waits ≡ true → t .unexpected .count < HEADERS)) d
+  unexpected-asked = so _ (λ p h. (h .0 .fits .unexpected, h .0 .room))
+
+  pub queue-asked : IfDelivered (λ p. QueueFits (t .queue)) d
+  queue-asked = so _ (λ p h. h .0 .fits .queue)

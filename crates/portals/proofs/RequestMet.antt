@@ -3,8 +3,10 @@ use mathlib.Core.Path.{_≡_, refl, ap, sym, _∙_, subst}
 use mathlib.Core.Bool.{Bool, true, false, true≢false, false≢true}
 use mathlib.Core.List.{List}
 use Prim.Native.Nat.{ℕ}
+use lib.ListN.{length}
 use Rattle.matching.specs.declared.layout.Request.{Request}
 use Rattle.matching.specs.declared.request.Kind.{Kind}
+use Rattle.matching.specs.declared.request.Kind.the-variants as Kind
 use Rattle.matching.specs.declared.refusals.Refusal.{Refusal}
 use Rattle.matching.specs.declared.refusals.Refusal.the-variants as Refusal
 use Rattle.state.specs.View.{View, entriesOf, headersOf, queueOf, viewOf}
@@ -18,7 +20,7 @@ use Rattle.state.specs.declared.layout.Counters.{Counters}
 use Rattle.state.specs.declared.layout.Registers.{Registers}
 use Rattle.state.specs.declared.layout.Target.{Target}
 use Rattle.state.proofs.SoundLaws.{Sound, sound-parts, target-sound, facts-sound}
-use Rattle.requests.specs.Plan.{entriesAfter, headersAfter, requestEvents, countersAfter}
+use Rattle.requests.specs.Plan.{entriesAfter, headersAfter, requestEvents, countersAfter, bytesPut, bytesGot}
 use Rattle.requests.specs.Decision.{registersAfter, ifDelivered, requestState}
 use Rattle.requests.specs.Parts.{Changed}
 use Rattle.requests.specs.declared.plan.Plan.{Plan}
@@ -26,8 +28,9 @@ use Rattle.requests.specs.declared.decision.Decision.{Decision}
 use Rattle.requests.specs.declared.decision.Decision.the-variants as Decision
 use Rattle.portals.specs.Answers.{Answer, refused, isRefused}
 use Rattle.portals.specs.Outcome.{Outcome}
-use Rattle.portals.specs.Request.{answerBy, decided, carriedOut, decisionIf}
+use Rattle.portals.specs.Request.{answerBy, decided, carriedOut, put, get, decisionIf, DecidedAs}
 use Rattle.portals.specs.Promises.{Met}
+use Rattle.portals.proofs.RequestCalls.{put-sound, get-sound, delivery-answers}
 use Rattle.portals.proofs.MetLaws.{seen-sound, seen-unsound, sound-joined, fits-counts}
 
 -- ## The state that is left
@@ -123,3 +126,25 @@ module _ (call : View → Outcome View (List ℕ)) (m : ℕ) (x : Request) (kind
       → left ≡ ifDelivered moved lent d
       → Met call t lent answer (after t es us q cs rs) left
   request-met d e l answers moves = met-if (isSound t) refl d e l answers moves
+
+module _ (t : Target) (memory : List ℕ) (x : Request) (es : Entries) (us : Unexpected) (q : Queue) (cs : Counters) (rs : Registers)
+    (answer : Answer) (d : Decision) (left : Left t d es us q cs rs) where
+  pub put-met : (payload memory′ : List ℕ)
+      → DecidedAs t (length memory) x Kind.Put (length payload) d
+      → answer ≡ answerBy Kind.Put (x .ack) d
+      → memory′ ≡ ifDelivered (bytesPut memory payload) memory d
+      → Met (λ v. put v memory x payload) t memory answer (after t es us q cs rs) memory′
+  unfolding put
+  put-met payload memory′ decides answers moves =
+      request-met (λ v. put v memory x payload) (length memory) x Kind.Put (length payload) (bytesPut memory payload) memory
+      (λ v. refl) (λ v. put-sound v memory x payload) t es us q cs rs answer memory′ d (decides .is) left answers moves
+
+  pub get-met : (reply reply′ : List ℕ)
+      → DecidedAs t (length memory) x Kind.Get (length reply) d
+      → answer ≡ answerBy Kind.Get (x .ack) d
+      → reply′ ≡ ifDelivered (bytesGot memory reply) reply d
+      → Met (λ v. get v memory x reply) t reply answer (after t es us q cs rs) reply′
+  unfolding get
+  get-met reply reply′ decides answers moves =
+      request-met (λ v. get v memory x reply) (length memory) x Kind.Get (length reply) (bytesGot memory reply) reply
+      (λ v. refl) (λ v. get-sound v memory x reply) t es us q cs rs answer reply′ d (decides .is) left answers moves

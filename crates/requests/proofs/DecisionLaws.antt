@@ -27,7 +27,17 @@ module _ (d : Decision) (p : Plan) (is : d ≡ Decision.Deliver p) where
   pub part-made : {S : Type 0} (part part′ : S) (makes : Plan → Type 0) → makes p → Changed part makes d part′
   part-made part part′ makes made = rw is made
 
--- ## Every other decision
+-- ## Every decision
+
+-- where a claim about a delivery follows from another
+pub claim-follows : (P Q : Plan → Type 0) → ((p : Plan) → P p → Q p) → (d : Decision) → IfDelivered P d → IfDelivered Q d
+claim-follows P Q follows (Decision.Refuse r) held = tt
+claim-follows P Q follows Decision.Drop held = tt
+claim-follows P Q follows Decision.DenyPermission held = tt
+claim-follows P Q follows Decision.DenyOperation held = tt
+claim-follows P Q follows (Decision.Deliver p) held = follows p held
+
+-- ## A decision that is no delivery
 
 -- one of the four variants before `Deliver`
 abbrev pub Other : Decision → Type 0

@@ -1,0 +1,83 @@
+-- The decision is the rules', and each part is left as it says.
+use Rattle.matching.specs.declared.request.Kind.the-variants as Kind
+use Rattle.portals.specs.Answers.{requestAnswer}
+use Rattle.portals.proofs.RequestCalls.{bytes-asked, entries-asked, unexpected-asked, queue-asked}
+use Rattle.portals.proofs.RequestMet.{get-met}
+use borrow.Author.Needs.{needs}
+use Rattle.portals.proofs.put_get.get.Statement.{statement}
+use Rattle.portals.proofs.put_get.get.Tie as tie
+
+decided-requires : tie.Need-decided-requires
+decided-requires c κs = search needs
+
+bytes-got-requires : tie.Need-bytes-got-requires
+bytes-got-requires c κs =
+    let d = c .before in
+    let a = d .before .before .before .args in
+    bytes-asked (a .t) _ (a .q) Kind.Get _ (d .decided .result) (d .decided .ensures)
+
+entries-after-requires : tie.Need-entries-after-requires
+entries-after-requires c κs =
+    let d = c .before .before .before .before in
+    let a = d .before .before .before .args in
+    entries-asked (a .t) _ (a .q) Kind.Get _ (d .decided .result) (d .decided .ensures)
+
+unexpected-after-requires : tie.Need-unexpected-after-requires
+unexpected-after-requires c κs =
+    let d = c .before .before .before .before .before in
+    let a = d .before .before .before .args in
+    unexpected-asked (a .t) _ (a .q) Kind.Get _ (d .decided .result) (d .decided .ensures)
+
+queue-after-requires : tie.Need-queue-after-requires
+queue-after-requires c κs =
+    let d = c .before .before .before .before .before .before in
+    let a = d .before .before .before .args in
+    queue-asked (a .t) _ (a .q) Kind.Get _ (d .decided .result) (d .decided .ensures)
+
+counters-after-requires : tie.Need-counters-after-requires
+counters-after-requires c κs = search needs
+
+registers-after-requires : tie.Need-registers-after-requires
+registers-after-requires c κs = search needs
+
+answer-by-requires : tie.Need-answer-by-requires
+answer-by-requires c κs = search needs
+
+same-length : tie.Need-same-length
+same-length c = search needs
+
+returns : tie.Need-returns
+returns c =
+    let r = c .before in
+    let k = r .before in
+    let q = k .before in
+    let u = q .before in
+    let e = u .before in
+    let b = e .before .before .before in
+    let d = b .before .before in
+    let a = d .before .before .before .args in
+    get-met (a .t) (a .memory .now) (a .q) (e .entries-after .result) (u .unexpected-after .result) (q .queue-after .result)
+    (k .counters-after .result) (r .registers-after .result) (requestAnswer (c .answer-by .result)) (d .decided .result)
+    (record {
+      entries = e .entries-after .ensures;
+      unexpected = u .unexpected-after .ensures;
+      queue = q .queue-after .ensures;
+      counters = k .counters-after .ensures;
+      registers = r .registers-after .ensures;
+    })
+    (a .reply .now) _ (d .decided .ensures) (c .answer-by .ensures) (b .bytes-got .ensures)
+
+pub get-spec : {M : Type 1} → statement M
+get-spec =
+    tie.close
+    (tie.spec
+    decided-requires
+    bytes-got-requires
+    entries-after-requires
+    unexpected-after-requires
+    queue-after-requires
+    counters-after-requires
+    registers-after-requires
+    answer-by-requires
+    same-length
+    returns)
