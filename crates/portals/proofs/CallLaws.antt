@@ -8,7 +8,6 @@ use borrow.Author.Tests.{leb-true, ltb-true}
 use lib.Dec.{leb, ltb, eqb}
 use lib.ListN.{length, length-drop}
 use Rattle.matching.specs.Refusals.{noneBad}
-use Rattle.matching.specs.Request.{ackGiven}
 use Rattle.matching.specs.declared.layout.Entry.{Entry}
 use Rattle.matching.specs.declared.layout.Request.{Request}
 use Rattle.matching.specs.declared.refusals.BadArgument.{BadArgument}
@@ -32,12 +31,12 @@ use Rattle.requests.specs.declared.decision.Decision.{Decision}
 use Rattle.requests.specs.declared.decision.Decision.the-variants as Decision
 use Rattle.requests.proofs.RequestKept.{none-beyond}
 use Rattle.portals.specs.Refusals.{Condition, goodArguments}
-use Rattle.portals.specs.Answers.{Answer, MADE, PRIORITY, OVERFLOW, isRefused}
+use Rattle.portals.specs.Answers.{Answer, MADE, isRefused}
 use Rattle.portals.specs.Outcome.{Outcome, refusal, guarded}
 use Rattle.portals.specs.Making.{notMade, badSetting, new}
 use Rattle.portals.specs.EventRead.{oldestOf, readEvent}
 use Rattle.portals.specs.CounterCalls.{counterTests, setCounter, increment, counterDone}
-use Rattle.portals.specs.Request.{deliveryAnswer, carriedOut, decided, put, get}
+use Rattle.portals.specs.Request.{carriedOut, decided, put, get}
 use Rattle.portals.specs.EarlyMessages.{Walk, appendBy, foundOnce, takenBy, appendTests, append, unlinkTests, unlink, lookedAt, deleted, walkFor, searched, searchTests, search}
 use Rattle.portals.specs.Calls.{Call, CallLaws, isAppend, Handles, linked, taken, refused, stateAfter, answerTo}
 use Rattle.portals.specs.Calls as calls

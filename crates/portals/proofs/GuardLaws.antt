@@ -1,10 +1,8 @@
 -- The tests of a call: it is refused, or it passed them all.
-use mathlib.Core.Path.{_≡_, refl, ap, sym, _∙_}
-use mathlib.Core.Bool.{Bool, true, false, cond}
+use mathlib.Core.Path.{_≡_, refl, ap, _∙_}
+use mathlib.Core.Bool.{true, cond}
 use mathlib.Core.List.{List, [], _∷_}
-use Rattle.matching.specs.Refusals.{firstBad, noneBad}
 use Rattle.matching.specs.declared.refusals.Refusal.{Refusal}
-use Rattle.matching.specs.declared.refusals.BadArgument.{BadArgument}
 use Rattle.state.proofs.ListLaws.{cond-cases, cond-map}
 use Rattle.portals.specs.Refusals.{Condition, unlessRefused}
 

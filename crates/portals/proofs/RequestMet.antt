@@ -1,6 +1,6 @@
 -- How put and get keep their promises: where the decision is the rules', and every part, the answer and the buffer are left as it says.
 use mathlib.Core.Path.{_≡_, refl, ap, sym, _∙_, subst}
-use mathlib.Core.Bool.{Bool, true, false, true≢false, false≢true}
+use mathlib.Core.Bool.{Bool, true, false, false≢true}
 use mathlib.Core.List.{List}
 use Prim.Native.Nat.{ℕ}
 use lib.ListN.{length}
@@ -10,9 +10,9 @@ use Rattle.matching.specs.declared.request.Kind.the-variants as Kind
 use Rattle.matching.specs.declared.refusals.Refusal.{Refusal}
 use Rattle.matching.specs.declared.refusals.Refusal.the-variants as Refusal
 use Rattle.state.specs.View.{View, entriesOf, headersOf, queueOf, viewOf}
-use Rattle.state.specs.Soundness.{soundView, countsKept, isSound, sound, unsound, seen}
+use Rattle.state.specs.Soundness.{soundView, countsKept, isSound, sound, seen}
 use Rattle.state.specs.Events.{postAll}
-use Rattle.state.specs.Parts.{EntriesHold, UnexpectedHold, QueueHolds, TargetFits}
+use Rattle.state.specs.Parts.{EntriesHold, UnexpectedHold, QueueHolds}
 use Rattle.state.specs.declared.layout.Entries.{Entries}
 use Rattle.state.specs.declared.layout.Unexpected.{Unexpected}
 use Rattle.state.specs.declared.layout.Queue.{Queue}
@@ -26,7 +26,7 @@ use Rattle.requests.specs.Parts.{Changed}
 use Rattle.requests.specs.declared.plan.Plan.{Plan}
 use Rattle.requests.specs.declared.decision.Decision.{Decision}
 use Rattle.requests.specs.declared.decision.Decision.the-variants as Decision
-use Rattle.portals.specs.Answers.{Answer, refused, isRefused}
+use Rattle.portals.specs.Answers.{Answer, isRefused}
 use Rattle.portals.specs.Outcome.{Outcome}
 use Rattle.portals.specs.Request.{answerBy, decided, carriedOut, put, get, decisionIf, DecidedAs}
 use Rattle.portals.specs.Promises.{Met}

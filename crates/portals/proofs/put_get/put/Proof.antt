@@ -1,9 +1,9 @@
 -- The decision is the rules', and each part is left as it says.
+use borrow.Author.Needs.{needs}
 use Rattle.matching.specs.declared.request.Kind.the-variants as Kind
 use Rattle.portals.specs.Answers.{requestAnswer}
 use Rattle.portals.proofs.RequestCalls.{bytes-asked, entries-asked, unexpected-asked, queue-asked}
 use Rattle.portals.proofs.RequestMet.{put-met}
-use borrow.Author.Needs.{needs}
 use Rattle.portals.proofs.put_get.put.Statement.{statement}
 use Rattle.portals.proofs.put_get.put.Tie as tie
 

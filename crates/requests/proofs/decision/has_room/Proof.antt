@@ -1,5 +1,5 @@
-use Rattle.state.proofs.SlotLaws.{in-use}
 use borrow.Author.Needs.{needs}
+use Rattle.state.proofs.SlotLaws.{in-use}
 use Rattle.requests.proofs.decision.has_room.Statement.{statement}
 use Rattle.requests.proofs.decision.has_room.Tie as tie
 

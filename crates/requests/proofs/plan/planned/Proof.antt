@@ -1,6 +1,6 @@
 use native.Mathlib.Omega.{arith}
-use Rattle.matching.proofs.RequestLaws.{local-length}
 use borrow.Author.Needs.{needs}
+use Rattle.matching.proofs.RequestLaws.{local-length}
 use Rattle.requests.proofs.plan.planned.Statement.{statement}
 use Rattle.requests.proofs.plan.planned.Tie as tie
 
