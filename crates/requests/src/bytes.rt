@@ -1,5 +1,6 @@
 // Document 01, "Request", rule 5: the bytes that a delivery moves.
 use crate::decision::Decision;
+use state::layout::Header;
 ghost use mathlib.Core.Path.{_≡_};
 ghost use Prim.Native.Nat.{_+_, _≤_};
 ghost use lib.ListN.{length, take, drop};
@@ -20,51 +21,45 @@ fn fill(part: &mut [u8], from: &[u8])
     }
 }
 
-// The first n bytes of the payload go to the memory, from the place on; every other byte stays.
-fn put_at(memory: &mut [u8], place: usize, n: usize, payload: &[u8])
-    requires { ⌜ (place + n ≤ length (now memory)) × (n ≤ length (now payload)) ⌝ }
-    ensures { λ _. ⌜ now (memory .exit) ≡ overwritten (now (memory .entry)) place (take n (now (payload .entry))) ⌝ }
+// A put's message: the first bytes of the payload, as many as are accepted, go to the memory from its place on; every other byte stays.
+fn put_message(memory: &mut [u8], h: Header, payload: &[u8])
+    requires { ⌜ (h .place + h .accepted ≤ length (now memory)) × (h .accepted ≤ length (now payload)) ⌝ }
+    ensures { λ _. ⌜ now (memory .exit) ≡ overwritten (now (memory .entry)) (h .place) (take (h .accepted) (now (payload .entry))) ⌝ }
 {
-    let end = place + n;
+    let place = h.place as usize;
+    let end = place + h.accepted as usize;
     fill(&mut memory[place..end], payload);
 }
 
-// The n bytes of the memory from the place on fill the first of the reply; the rest of the reply stays.
-fn get_from(reply: &mut [u8], place: usize, n: usize, memory: &[u8])
-    requires { ⌜ (place + n ≤ length (now memory)) × (n ≤ length (now reply)) ⌝ }
-    ensures { λ _. ⌜ now (reply .exit) ≡ overwritten (now (reply .entry)) 0 (take n (drop place (now (memory .entry)))) ⌝ }
+// A get's message: the bytes of the memory from its place on, as many as are accepted, fill the first of the reply; the rest of the
+// reply stays.
+fn get_message(reply: &mut [u8], h: Header, memory: &[u8])
+    requires { ⌜ (h .place + h .accepted ≤ length (now memory)) × (h .accepted ≤ length (now reply)) ⌝ }
+    ensures { λ _. ⌜ now (reply .exit) ≡ overwritten (now (reply .entry)) 0 (take (h .accepted) (drop (h .place) (now (memory .entry)))) ⌝ }
 {
+    let place = h.place as usize;
+    let n = h.accepted as usize;
     fill(&mut reply[..n], &memory[place..]);
 }
 
-// A put's bytes, where it is delivered.
+// The memory after a put: its message moves where it is delivered.
 pub fn bytes_put(memory: &mut [u8], d: Decision, payload: &[u8])
     requires { ⌜ IfDelivered (λ p. (p .message .place + p .message .accepted ≤ length (now memory)) × (p .message .accepted ≤ length (now payload))) d ⌝ }
     ensures { λ _. ⌜ now (memory .exit) ≡ ifDelivered (bytesPut (now (memory .entry)) (now (payload .entry))) (now (memory .entry)) d ⌝ }
 {
     match d {
-        Decision::Deliver(p) => put_at(
-            memory,
-            p.message.place as usize,
-            p.message.accepted as usize,
-            payload,
-        ),
+        Decision::Deliver(p) => put_message(memory, p.message, payload),
         _ => {}
     }
 }
 
-// A get's bytes, where it is delivered.
+// The reply after a get.
 pub fn bytes_got(reply: &mut [u8], d: Decision, memory: &[u8])
     requires { ⌜ IfDelivered (λ p. (p .message .place + p .message .accepted ≤ length (now memory)) × (p .message .accepted ≤ length (now reply))) d ⌝ }
     ensures { λ _. ⌜ now (reply .exit) ≡ ifDelivered (bytesGot (now (memory .entry)) (now (reply .entry))) (now (reply .entry)) d ⌝ }
 {
     match d {
-        Decision::Deliver(p) => get_from(
-            reply,
-            p.message.place as usize,
-            p.message.accepted as usize,
-            memory,
-        ),
+        Decision::Deliver(p) => get_message(reply, p.message, memory),
         _ => {}
     }
 }

@@ -1,5 +1,4 @@
 use mathlib.Core.Path.{sym}
-use native.Mathlib.Omega.{arith}
 use borrow.Author.Needs.{needs}
 use Rattle.requests.specs.Plan.{bytesPut}
 use Rattle.requests.proofs.DecisionLaws.{of-delivered, delivered-is, kept-else}
@@ -9,21 +8,9 @@ use Rattle.requests.proofs.bytes.bytes_put.Tie as tie
 enum-known-d : tie.Need-enum-known-d
 enum-known-d c = search needs
 
-cast-put-at : tie.Need-cast-put-at
-cast-put-at c =
-    let h = c .before .before .before in
-    let inside = of-delivered _ _ (h .d .given .1) _ (h .before .before .before .before .pre) in
-    omega arith
-
-cast-put-at-2 : tie.Need-cast-put-at-2
-cast-put-at-2 c =
-    let h = c .before .before .before .before in
-    let inside = of-delivered _ _ (h .d .given .1) _ (h .before .before .before .before .pre) in
-    omega arith
-
-put-at-requires : tie.Need-put-at-requires
-put-at-requires c κs =
-    let h = c .before .before .before .before in
+put-message-requires : tie.Need-put-message-requires
+put-message-requires c κs =
+    let h = c .before .before in
     of-delivered _ _ (h .d .given .1) _ (h .before .before .before .before .pre)
 
 same-length : tie.Need-same-length
@@ -32,7 +19,7 @@ same-length c = search needs
 returns : tie.Need-returns
 returns c =
     let h = c .before .before in
-    rw (delivered-is _ _ (h .before .before .before .before .before .d .given .1) _ _) (h .put-at .ensures)
+    rw (delivered-is _ _ (h .before .before .before .d .given .1) _ _) (h .put-message .ensures)
 
 returns-2 : tie.Need-returns-2
 returns-2 c =
@@ -42,4 +29,4 @@ returns-2 c =
 pub bytes-put-spec : {M : Type 1} → statement M
 bytes-put-spec =
     tie.close
-    (tie.spec enum-known-d cast-put-at cast-put-at-2 put-at-requires same-length returns returns-2)
+    (tie.spec enum-known-d put-message-requires same-length returns returns-2)

@@ -5,8 +5,14 @@ use borrow.Author.Needs.{needs}
 use lib.ListN.{length, take, drop, length-take, length-drop}
 use lib.Seq.{take-all}
 use Rattle.requests.proofs.ByteLaws.{part-overwritten}
-use Rattle.requests.proofs.bytes.get_from.Statement.{statement}
-use Rattle.requests.proofs.bytes.get_from.Tie as tie
+use Rattle.requests.proofs.bytes.get_message.Statement.{statement}
+use Rattle.requests.proofs.bytes.get_message.Tie as tie
+
+cast-place : tie.Need-cast-place
+cast-place c = search needs
+
+cast-n : tie.Need-cast-n
+cast-n c = search needs
 
 slice-relend-prefix-fill : tie.Need-slice-relend-prefix-fill
 slice-relend-prefix-fill c = search needs
@@ -31,20 +37,23 @@ same-length c = search needs
 
 returns : tie.Need-returns
 returns c =
-    let a = c .before .before .before .before .before .before .before .args in
+    let a = c .before .before .before .before .before .before .before .before .before .args in
+    let h = a .h in
     let part = c .before .before .fill in
-    let left = length (a .memory .now) - a .place in
-    let rest = drop (a .place) (a .memory .now) in
+    let left = length (a .memory .now) - h .place in
+    let rest = drop (h .place) (a .memory .now) in
     let whole : take left rest ≡ rest = take-all left rest (simp length-drop (omega arith)) in
-    part-overwritten 0 (a .n) (a .reply .now) rest (part .last .0)
+    part-overwritten 0 (h .accepted) (a .reply .now) rest (part .last .0)
     (omega arith)
     (simp length-drop (omega arith))
     (rw whole at (part .ensures))
 
-pub get-from-spec : {M : Type 1} → statement M
-get-from-spec =
+pub get-message-spec : {M : Type 1} → statement M
+get-message-spec =
     tie.close
     (tie.spec
+    cast-place
+    cast-n
     slice-relend-prefix-fill
     slice-aggregate-fill
     sub-fill

@@ -3,8 +3,14 @@ use Prim.Native.Nat.{_+_, _-_}
 use native.Mathlib.Omega.{arith}
 use borrow.Author.Needs.{needs}
 use Rattle.requests.proofs.ByteLaws.{part-overwritten}
-use Rattle.requests.proofs.bytes.put_at.Statement.{statement}
-use Rattle.requests.proofs.bytes.put_at.Tie as tie
+use Rattle.requests.proofs.bytes.put_message.Statement.{statement}
+use Rattle.requests.proofs.bytes.put_message.Tie as tie
+
+cast-place : tie.Need-cast-place
+cast-place c = search needs
+
+cast-end : tie.Need-cast-end
+cast-end c = search needs
 
 add-end : tie.Need-add-end
 add-end c = search needs
@@ -26,15 +32,16 @@ same-length c = search needs
 
 returns : tie.Need-returns
 returns c =
-    let a = c .before .before .before .before .before .before .args in
+    let a = c .before .before .before .before .before .before .before .before .args in
+    let h = a .h in
     let part = c .before .before .fill in
-    let k : a .place + a .n - a .place ≡ a .n = omega arith in
+    let k : h .place + h .accepted - h .place ≡ h .accepted = omega arith in
     rw k
-    (part-overwritten (a .place) (a .n) (a .memory .now) (a .payload .now) (part .last .0)
+    (part-overwritten (h .place) (h .accepted) (a .memory .now) (a .payload .now) (part .last .0)
     (omega arith)
     (omega arith)
     (rw k at (part .ensures)))
 
-pub put-at-spec : {M : Type 1} → statement M
-put-at-spec =
-    tie.close (tie.spec add-end sub-fill part-fill-start part-fill-end fill-requires same-length returns)
+pub put-message-spec : {M : Type 1} → statement M
+put-message-spec =
+    tie.close (tie.spec cast-place cast-end add-end sub-fill part-fill-start part-fill-end fill-requires same-length returns)
