@@ -37,22 +37,24 @@ fn decided(t: Target, lent: usize, q: Request, kind: Kind, requested: usize) -> 
 }
 
 // PRIORITY or OVERFLOW, by the list of the chosen entry.
-fn answer_delivery(p: Plan, kind: Kind, ack: u16) -> RequestAnswer
-    ensures { λ r. ⌜ requestAnswer r ≡ deliveryAnswer kind ack p ⌝ }
+fn answer_delivery(p: Plan, kind: Kind, asked: u16) -> RequestAnswer
+    ensures { λ r. ⌜ requestAnswer r ≡ deliveryAnswer kind asked p ⌝ }
 {
     let e = p.entry.entry;
-    let given = request::ack_given(e.options, kind, ack);
+    let length = p.message.accepted;
+    let offset = p.offset;
+    let ack = request::ack_given(e.options, kind, asked);
     if e.list == 0 {
         RequestAnswer::Priority {
-            length: p.message.accepted,
-            offset: p.offset,
-            ack: given,
+            length,
+            offset,
+            ack,
         }
     } else {
         RequestAnswer::Overflow {
-            length: p.message.accepted,
-            offset: p.offset,
-            ack: given,
+            length,
+            offset,
+            ack,
         }
     }
 }

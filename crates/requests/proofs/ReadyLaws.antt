@@ -1,5 +1,5 @@
 -- On a sound state a delivery that is decided can be carried out.
-use mathlib.Core.Path.{_≡_, sym, subst}
+use mathlib.Core.Path.{_≡_, sym, _∙_, subst}
 use mathlib.Core.Bool.{true}
 use Prim.Native.Nat.{ℕ, _+_, _≤_, _<_}
 use native.Mathlib.Omega.{arith}
@@ -17,8 +17,10 @@ use Rattle.state.proofs.ListLaws.{both, every-at}
 use Rattle.state.proofs.SlotLaws.{in-use}
 use Rattle.state.proofs.SoundLaws.{target-sound, EntryFacts, entry-facts, region-fits}
 use Rattle.requests.specs.Plan.{message, plan}
-use Rattle.requests.specs.Decision.{decide}
+use Rattle.requests.specs.Choice.{choose}
+use Rattle.requests.specs.Decision.{decideOn, decide}
 use Rattle.requests.specs.Parts.{Bounded, IfDelivered, Ready, Decides}
+use Rattle.requests.specs.declared.choice.Choice.{Choice}
 use Rattle.requests.specs.declared.decision.Decision.{Decision}
 use Rattle.requests.proofs.RequestKept.{Chosen, decide-cases, room-left}
 
@@ -68,11 +70,24 @@ module _ (t : Target) (portal : ℕ) (a : Arrival) (fits : TargetFits t) (sound 
         short = accepted-requested (x .entry) (x .local) a;
       }
 
-  -- a decision to deliver is made only where it can be carried out
-  pub decides : (d : Decision) → d ≡ decide (entriesOf (t .entries)) (headersOf (t .unexpected)) portal a → Decides t portal a d
-  decides d e = record {
-    is = e;
-    ready =
-        subst (IfDelivered (Ready t (a .requested))) (sym e)
-        (decide-cases (entriesOf (t .entries)) (headersOf (t .unexpected)) portal a (IfDelivered (Ready t (a .requested))) tt tt tt chosen-ready);
-  }
+  -- the decision is the one on the choice
+  on-choice : (choice : Choice)
+      → choose (entriesOf (t .entries)) portal a ≡ choice
+      → decideOn (entriesOf (t .entries)) (headersOf (t .unexpected)) portal a choice
+      ≡ decide (entriesOf (t .entries)) (headersOf (t .unexpected)) portal a
+  unfolding decide
+  on-choice choice e = rw e
+
+  -- and a delivery is decided only where it can be carried out
+  pub decides : (choice : Choice) (d : Decision)
+      → choose (entriesOf (t .entries)) portal a ≡ choice
+      → d ≡ decideOn (entriesOf (t .entries)) (headersOf (t .unexpected)) portal a choice
+      → Decides t portal a d
+  decides choice d chosen e =
+      let is : d ≡ decide (entriesOf (t .entries)) (headersOf (t .unexpected)) portal a = e ∙ on-choice choice chosen in
+      record {
+        is = is;
+        ready =
+            subst (IfDelivered (Ready t (a .requested))) (sym is)
+            (decide-cases (entriesOf (t .entries)) (headersOf (t .unexpected)) portal a (IfDelivered (Ready t (a .requested))) tt tt tt chosen-ready);
+      }

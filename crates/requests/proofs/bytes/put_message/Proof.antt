@@ -1,8 +1,6 @@
-use mathlib.Core.Path.{_≡_}
-use Prim.Native.Nat.{_+_, _-_}
 use native.Mathlib.Omega.{arith}
 use borrow.Author.Needs.{needs}
-use Rattle.requests.proofs.ByteLaws.{part-overwritten}
+use Rattle.requests.proofs.ByteLaws.{part-filled}
 use Rattle.requests.proofs.bytes.put_message.Statement.{statement}
 use Rattle.requests.proofs.bytes.put_message.Tie as tie
 
@@ -22,7 +20,7 @@ part-fill-start : tie.Need-part-fill-start
 part-fill-start c = search needs
 
 part-fill-end : tie.Need-part-fill-end
-part-fill-end c = search needs
+part-fill-end c = c .before .before .before .before .pre .0
 
 fill-requires : tie.Need-fill-requires
 fill-requires c κs = search needs
@@ -35,12 +33,7 @@ returns c =
     let a = c .before .before .before .before .before .before .before .before .args in
     let h = a .h in
     let part = c .before .before .fill in
-    let k : h .place + h .accepted - h .place ≡ h .accepted = omega arith in
-    rw k
-    (part-overwritten (h .place) (h .accepted) (a .memory .now) (a .payload .now) (part .last .0)
-    (omega arith)
-    (omega arith)
-    (rw k at (part .ensures)))
+    part-filled (h .place) (h .accepted) (a .memory .now) (a .payload .now) (part .last .0) (omega arith) (omega arith) (part .ensures)
 
 pub put-message-spec : {M : Type 1} → statement M
 put-message-spec =

@@ -1,27 +1,14 @@
 -- The chosen entry is asked, and it alone; where there is none the request is dropped.
-use mathlib.Core.Path.{_≡_, sym, _∙_}
-use mathlib.Core.List.{List}
-use Prim.Native.Nat.{ℕ}
+use mathlib.Core.Path.{refl, sym, _∙_}
 use borrow.Author.Needs.{needs}
-use Rattle.matching.specs.declared.request.Arrival.{Arrival}
 use Rattle.state.specs.View.{entriesOf}
-use Rattle.state.specs.declared.layout.HeldEntry.{HeldEntry}
-use Rattle.state.specs.declared.layout.Header.{Header}
 use Rattle.requests.specs.Choice.{choose}
-use Rattle.requests.specs.Decision.{decideOn, decide}
-use Rattle.requests.specs.declared.choice.Choice.{Choice}
+use Rattle.requests.specs.declared.choice.Choice.the-variants as Choice
 use Rattle.requests.specs.declared.decision.Decision.the-variants as Decision
 use Rattle.requests.proofs.ChoiceLaws.{priority-inside, overflow-inside}
 use Rattle.requests.proofs.ReadyLaws.{place-asked, decides}
 use Rattle.requests.proofs.decision.decide.Statement.{statement}
 use Rattle.requests.proofs.decision.decide.Tie as tie
-
--- the decision is the one on the choice
-on-choice : (entries : List HeldEntry) (headers : List Header) (portal : ℕ) (a : Arrival) (choice : Choice)
-    → choose entries portal a ≡ choice
-    → decideOn entries headers portal a choice ≡ decide entries headers portal a
-unfolding decide
-on-choice entries headers portal a choice e = rw e
 
 choose-requires : tie.Need-choose-requires
 choose-requires c κs = c .pre .0 .entries
@@ -59,8 +46,9 @@ returns c =
     let f = k .before .before in
     let s = f .before in
     let a = s .args in
-    decides (a .t) (a .portal) (a .a) (s .pre .0) (s .pre .1) (c .decide-at .result)
-    (c .decide-at .ensures ∙ on-choice _ _ (a .portal) (a .a) _ (sym (f .choose .ensures) ∙ k .k .given .1))
+    decides (a .t) (a .portal) (a .a) (s .pre .0) (s .pre .1) (Choice.Priority (k .k .given .0 .0)) (c .decide-at .result)
+    (sym (f .choose .ensures) ∙ k .k .given .1)
+    (c .decide-at .ensures)
 
 returns-2 : tie.Need-returns-2
 returns-2 c =
@@ -68,16 +56,18 @@ returns-2 c =
     let f = k .before .before in
     let s = f .before in
     let a = s .args in
-    decides (a .t) (a .portal) (a .a) (s .pre .0) (s .pre .1) (c .decide-at2 .result)
-    (c .decide-at2 .ensures ∙ on-choice _ _ (a .portal) (a .a) _ (sym (f .choose .ensures) ∙ k .k2 .given .1))
+    decides (a .t) (a .portal) (a .a) (s .pre .0) (s .pre .1) (Choice.Overflow (k .k2 .given .0 .0)) (c .decide-at2 .result)
+    (sym (f .choose .ensures) ∙ k .k2 .given .1)
+    (c .decide-at2 .ensures)
 
 returns-3 : tie.Need-returns-3
 returns-3 c =
     let f = c .before .before in
     let s = f .before in
     let a = s .args in
-    decides (a .t) (a .portal) (a .a) (s .pre .0) (s .pre .1) Decision.Drop
-    (on-choice _ _ (a .portal) (a .a) _ (sym (f .choose .ensures) ∙ c .enum-told .given .1))
+    decides (a .t) (a .portal) (a .a) (s .pre .0) (s .pre .1) Choice.Nothing Decision.Drop
+    (sym (f .choose .ensures) ∙ c .enum-told .given .1)
+    refl
 
 pub decide-spec : {M : Type 1} → statement M
 decide-spec =
