@@ -1,7 +1,10 @@
 -- The decision is the rules', and each part is left as it says.
+use mathlib.Core.Path.{_≡_}
+use lib.ListN.{length}
 use borrow.Author.Needs.{needs}
 use Rattle.matching.specs.declared.request.Kind.the-variants as Kind
 use Rattle.portals.specs.Answers.{requestAnswer}
+use Rattle.portals.specs.Request.{answerBy}
 use Rattle.portals.proofs.RequestCalls.{bytes-asked, entries-asked, unexpected-asked, queue-asked}
 use Rattle.portals.proofs.RequestMet.{put-met}
 use Rattle.portals.proofs.put_get.put.Statement.{statement}
@@ -14,25 +17,25 @@ bytes-put-requires : tie.Need-bytes-put-requires
 bytes-put-requires c κs =
     let d = c .before in
     let a = d .before .before .before .args in
-    bytes-asked (a .t) _ (a .q) Kind.Put _ (d .decided .result) (d .decided .ensures)
+    bytes-asked (a .t) (length (a .memory .now)) (a .q) Kind.Put (length (a .payload .now)) (d .decided .result) (d .decided .ensures)
 
 entries-after-requires : tie.Need-entries-after-requires
 entries-after-requires c κs =
     let d = c .before .before .before .before in
     let a = d .before .before .before .args in
-    entries-asked (a .t) _ (a .q) Kind.Put _ (d .decided .result) (d .decided .ensures)
+    entries-asked (a .t) (length (a .memory .now)) (a .q) Kind.Put (length (a .payload .now)) (d .decided .result) (d .decided .ensures)
 
 unexpected-after-requires : tie.Need-unexpected-after-requires
 unexpected-after-requires c κs =
     let d = c .before .before .before .before .before in
     let a = d .before .before .before .args in
-    unexpected-asked (a .t) _ (a .q) Kind.Put _ (d .decided .result) (d .decided .ensures)
+    unexpected-asked (a .t) (length (a .memory .now)) (a .q) Kind.Put (length (a .payload .now)) (d .decided .result) (d .decided .ensures)
 
 queue-after-requires : tie.Need-queue-after-requires
 queue-after-requires c κs =
     let d = c .before .before .before .before .before .before in
     let a = d .before .before .before .args in
-    queue-asked (a .t) _ (a .q) Kind.Put _ (d .decided .result) (d .decided .ensures)
+    queue-asked (a .t) (length (a .memory .now)) (a .q) Kind.Put (length (a .payload .now)) (d .decided .result) (d .decided .ensures)
 
 counters-after-requires : tie.Need-counters-after-requires
 counters-after-requires c κs = search needs
@@ -56,8 +59,10 @@ returns c =
     let b = e .before .before .before in
     let d = b .before .before in
     let a = d .before .before .before .args in
+    let answer = requestAnswer (c .answer-by .result) in
+    let answers : answer ≡ answerBy Kind.Put (a .q .ack) (d .decided .result) = c .answer-by .ensures in
     put-met (a .t) (a .memory .now) (a .q) (e .entries-after .result) (u .unexpected-after .result) (q .queue-after .result)
-    (k .counters-after .result) (r .registers-after .result) (requestAnswer (c .answer-by .result)) (d .decided .result)
+    (k .counters-after .result) (r .registers-after .result) answer (d .decided .result)
     (record {
       entries = e .entries-after .ensures;
       unexpected = u .unexpected-after .ensures;
@@ -65,7 +70,7 @@ returns c =
       counters = k .counters-after .ensures;
       registers = r .registers-after .ensures;
     })
-    (a .payload .now) _ (d .decided .ensures) (c .answer-by .ensures) (b .bytes-put .ensures)
+    (a .payload .now) _ (d .decided .ensures) answers (b .bytes-put .ensures)
 
 pub put-spec : {M : Type 1} → statement M
 put-spec =
