@@ -2,7 +2,7 @@
 use mathlib.Core.Path.{_≡_, refl, _∙_}
 use mathlib.Core.Bool.{true, false, _||_, not}
 use mathlib.Core.List.{List}
-use Prim.Native.Nat.{ℕ, _+_, _≤_, _<_}
+use Prim.Native.Nat.{ℕ, _≤_, _<_}
 use borrow.Author.Tests.{leb-true, eq-eqb, ne-eqb}
 use lib.Dec.{eqb, leb}
 use lib.ListN.{length}
@@ -23,7 +23,7 @@ use Rattle.state.specs.declared.layout.Target.{Target}
 use Rattle.state.proofs.ListLaws.{cond-cases}
 use Rattle.state.proofs.SoundLaws.{Sound, good-both}
 use Rattle.requests.specs.Decision.{decide, requestState}
-use Rattle.requests.specs.Parts.{IfDelivered, Ready, Decides}
+use Rattle.requests.specs.Parts.{BytesFit, IfDelivered, Ready, Decides}
 use Rattle.requests.specs.declared.plan.Plan.{Plan}
 use Rattle.requests.specs.declared.decision.Decision.{Decision}
 use Rattle.requests.specs.declared.decision.Decision.the-variants as Decision
@@ -102,8 +102,8 @@ module _ (t : Target) (lent : ℕ) (q : Request) (kind : Kind) (requested : ℕ)
   so : (Q : Plan → Type 0) → ((p : Plan) → Ready t requested p × (lent ≡ t .size) → Q p) → IfDelivered Q d
   so Q follows = claim-follows (λ p. Ready t requested p × (lent ≡ t .size)) Q follows d (decides .ready)
 
-  pub bytes-asked : IfDelivered (λ p. (p .message .place + p .message .accepted ≤ lent) × (p .message .accepted ≤ requested)) d
-  bytes-asked = so _ (λ p h. (rw (h .1) (h .0 .bytes), h .0 .short))
+  pub bytes-asked : IfDelivered (λ p. BytesFit lent requested (p .message)) d
+  bytes-asked = so _ (λ p h. rw (h .1) (h .0 .bytes))
 
   pub entries-asked : IfDelivered (λ p. EntriesFit (t .entries) × (p .index < t .entries .count)) d
   entries-asked = so _ (λ p h. (h .0 .fits .entries, h .0 .inside))

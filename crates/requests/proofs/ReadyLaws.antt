@@ -66,8 +66,7 @@ module _ (t : Target) (portal : ℕ) (a : Arrival) (fits : TargetFits t) (sound 
         fits = fits;
         inside = inside;
         room = λ waits. rw (sym (in-use (fits .unexpected))) (room-left (headersOf (t .unexpected)) x (c .room) waits);
-        bytes = omega arith;
-        short = accepted-requested (x .entry) (x .local) a;
+        bytes = (omega arith, accepted-requested (x .entry) (x .local) a);
       }
 
   -- the decision is the one on the choice

@@ -7,6 +7,7 @@ use Rattle.state.specs.Sizes.{MEMORY, HEADERS}
 use Rattle.state.specs.View.{entriesOf, headersOf}
 use Rattle.state.specs.Parts.{TargetFits}
 use Rattle.state.specs.declared.layout.HeldEntry.{HeldEntry}
+use Rattle.state.specs.declared.layout.Header.{Header}
 use Rattle.state.specs.declared.layout.Target.{Target}
 use Rattle.requests.specs.Decision.{decide}
 use Rattle.requests.specs.declared.plan.Plan.{Plan}
@@ -17,6 +18,10 @@ use Rattle.requests.specs.declared.decision.Decision.the-variants as Dec
 pub record Bounded (x : HeldEntry) : Type 0 where
   pub region : x .entry .start + x .entry .length ≤ MEMORY
   pub local : x .local ≤ x .entry .length
+
+-- the bytes of a message lie in a memory of so many bytes, and are no more than were requested
+abbrev pub BytesFit : ℕ → ℕ → Header → Type 0
+BytesFit memory requested h = (h .place + h .accepted ≤ memory) × (h .accepted ≤ requested)
 
 -- a claim about a delivery; nothing is claimed of another decision
 abbrev pub IfDelivered : (Plan → Type 0) → Decision → Type 0
@@ -35,13 +40,12 @@ Changed part makes Decision.DenyOperation part′ = part′ ≡ part
 Changed part makes (Decision.Deliver p) part′ = makes p
 
 -- a delivery of a request for so many bytes can be carried out: the parts fit, the entry is at its place, its header finds room, and
--- the bytes lie in the memory and are no more than were requested
+-- the bytes fit
 pub record Ready (t : Target) (requested : ℕ) (p : Plan) : Type 0 where
   pub fits : TargetFits t
   pub inside : p .index < t .entries .count
   pub room : p .waits ≡ true → t .unexpected .count < HEADERS
-  pub bytes : p .message .place + p .message .accepted ≤ t .size
-  pub short : p .message .accepted ≤ requested
+  pub bytes : BytesFit (t .size) requested (p .message)
 
 -- rules 3 and 4 on a sound state
 pub record Decides (t : Target) (portal : ℕ) (a : Arrival) (d : Decision) : Type 0 where

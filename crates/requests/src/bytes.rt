@@ -2,12 +2,12 @@
 use crate::decision::Decision;
 use state::layout::Header;
 ghost use mathlib.Core.Path.{_≡_};
-ghost use Prim.Native.Nat.{_+_, _≤_};
+ghost use Prim.Native.Nat.{_≤_};
 ghost use lib.ListN.{length, take, drop};
 ghost use Rattle.state.specs.Lists.{overwritten};
 ghost use Rattle.requests.specs.Plan.{bytesPut, bytesGot};
 ghost use Rattle.requests.specs.Decision.{ifDelivered};
-ghost use Rattle.requests.specs.Parts.{IfDelivered};
+ghost use Rattle.requests.specs.Parts.{BytesFit, IfDelivered};
 
 // Fills a part with the first bytes of `from`.
 fn fill(part: &mut [u8], from: &[u8])
@@ -23,7 +23,7 @@ fn fill(part: &mut [u8], from: &[u8])
 
 // A put's message: the first bytes of the payload, as many as are accepted, go to the memory from its place on; every other byte stays.
 fn put_message(memory: &mut [u8], h: Header, payload: &[u8])
-    requires { ⌜ (h .place + h .accepted ≤ length (now memory)) × (h .accepted ≤ length (now payload)) ⌝ }
+    requires { ⌜ BytesFit (length (now memory)) (length (now payload)) h ⌝ }
     ensures { λ _. ⌜ now (memory .exit) ≡ overwritten (now (memory .entry)) (h .place) (take (h .accepted) (now (payload .entry))) ⌝ }
 {
     let place = h.place as usize;
@@ -34,7 +34,7 @@ fn put_message(memory: &mut [u8], h: Header, payload: &[u8])
 // A get's message: the bytes of the memory from its place on, as many as are accepted, fill the first of the reply; the rest of the
 // reply stays.
 fn get_message(reply: &mut [u8], h: Header, memory: &[u8])
-    requires { ⌜ (h .place + h .accepted ≤ length (now memory)) × (h .accepted ≤ length (now reply)) ⌝ }
+    requires { ⌜ BytesFit (length (now memory)) (length (now reply)) h ⌝ }
     ensures { λ _. ⌜ now (reply .exit) ≡ overwritten (now (reply .entry)) 0 (take (h .accepted) (drop (h .place) (now (memory .entry)))) ⌝ }
 {
     let place = h.place as usize;
@@ -44,7 +44,7 @@ fn get_message(reply: &mut [u8], h: Header, memory: &[u8])
 
 // The memory after a put: its message moves where it is delivered.
 pub fn bytes_put(memory: &mut [u8], d: Decision, payload: &[u8])
-    requires { ⌜ IfDelivered (λ p. (p .message .place + p .message .accepted ≤ length (now memory)) × (p .message .accepted ≤ length (now payload))) d ⌝ }
+    requires { ⌜ IfDelivered (λ p. BytesFit (length (now memory)) (length (now payload)) (p .message)) d ⌝ }
     ensures { λ _. ⌜ now (memory .exit) ≡ ifDelivered (bytesPut (now (memory .entry)) (now (payload .entry))) (now (memory .entry)) d ⌝ }
 {
     match d {
@@ -55,7 +55,7 @@ pub fn bytes_put(memory: &mut [u8], d: Decision, payload: &[u8])
 
 // The reply after a get.
 pub fn bytes_got(reply: &mut [u8], d: Decision, memory: &[u8])
-    requires { ⌜ IfDelivered (λ p. (p .message .place + p .message .accepted ≤ length (now memory)) × (p .message .accepted ≤ length (now reply))) d ⌝ }
+    requires { ⌜ IfDelivered (λ p. BytesFit (length (now memory)) (length (now reply)) (p .message)) d ⌝ }
     ensures { λ _. ⌜ now (reply .exit) ≡ ifDelivered (bytesGot (now (memory .entry)) (now (reply .entry))) (now (reply .entry)) d ⌝ }
 {
     match d {
