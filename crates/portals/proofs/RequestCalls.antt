@@ -23,7 +23,7 @@ use Rattle.state.specs.declared.layout.Target.{Target}
 use Rattle.state.proofs.ListLaws.{cond-cases}
 use Rattle.state.proofs.SoundLaws.{Sound, good-both}
 use Rattle.requests.specs.Decision.{decide, requestState}
-use Rattle.requests.specs.Parts.{BytesFit, IfDelivered, Ready, Decides}
+use Rattle.requests.specs.Parts.{BytesFit, OfDelivery, Deliverable, Decides}
 use Rattle.requests.specs.declared.plan.Plan.{Plan}
 use Rattle.requests.specs.declared.decision.Decision.{Decision}
 use Rattle.requests.specs.declared.decision.Decision.the-variants as Decision
@@ -42,11 +42,11 @@ requested-fits q n e =
     leb-true n 65536 (good-both (leb n 65536) _ BadArgument.Size refl (ack .1) .0)
 
 -- whatever is decided of a request, refusal or not, leaves a sound state sound
-pub decided-sound : (v : View) (lent : ℕ) (q : Request) (kind : Kind) (n : ℕ) → Sound v → Sound (requestState v (decided v lent q kind n))
+pub decided-sound : (v : View) (size : ℕ) (q : Request) (kind : Kind) (n : ℕ) → Sound v → Sound (requestState v (decided v size q kind n))
 unfolding decided
-decided-sound v lent q kind n s =
+decided-sound v size q kind n s =
     let a = arrivalOf q kind n in
-    guard-cases (λ d. Sound (requestState v d)) Decision.Refuse (requestTests v lent q n) (decide (v .entries) (v .headers) (q .portal) a)
+    guard-cases (λ d. Sound (requestState v d)) Decision.Refuse (requestTests v size q n) (decide (v .entries) (v .headers) (q .portal) a)
     (λ r. s)
     (λ passed. request-sound v (q .portal) a s (requested-fits q n (passed .1 .0)))
 
@@ -70,46 +70,47 @@ delivery-answers kind ack p =
 
 -- ## How a decision is made
 
-module _ (t : Target) (lent : ℕ) (q : Request) (kind : Kind) (requested : ℕ) where
-  pub unsound-decided : isSound t ≡ false → DecidedAs t lent q kind requested (Decision.Refuse Refusal.BadState)
-  unsound-decided h = record { is = rw h; ready = tt }
+module _ (t : Target) (size : ℕ) (q : Request) (kind : Kind) (requested : ℕ) where
+  pub unsound-decided : isSound t ≡ false → DecidedAs t size q kind requested (Decision.Refuse Refusal.BadState)
+  unsound-decided h = record { is = rw h; deliverable = tt }
 
   module _ (h : isSound t ≡ true) where
-    pub memory-decided : (lent ≡ t .size → ⊥) → DecidedAs t lent q kind requested (Decision.Refuse Refusal.BadMemory)
+    pub memory-decided : (size ≡ t .size → ⊥) → DecidedAs t size q kind requested (Decision.Refuse Refusal.BadMemory)
     unfolding decided
-    memory-decided differs = record { is = rw (h, ne-eqb lent (t .size) differs); ready = tt }
+    memory-decided differs = record { is = rw (h, ne-eqb size (t .size) differs); deliverable = tt }
 
-    pub argument-decided : lent ≡ t .size
+    pub argument-decided : size ≡ t .size
         → noneBad (badRequestArgument q requested) ≡ false
-        → DecidedAs t lent q kind requested (Decision.Refuse Refusal.ArgInvalid)
+        → DecidedAs t size q kind requested (Decision.Refuse Refusal.ArgInvalid)
     unfolding decided
-    argument-decided same bad = record { is = rw (h, eq-eqb lent (t .size) same, bad); ready = tt }
+    argument-decided same bad = record { is = rw (h, eq-eqb size (t .size) same, bad); deliverable = tt }
 
     -- by the rules, where every test is passed
-    pub rules-decided : (d : Decision) → lent ≡ t .size
+    pub rules-decided : (d : Decision) → size ≡ t .size
         → noneBad (badRequestArgument q requested) ≡ true
         → Decides t (q .portal) (arrivalOf q kind requested) d
-        → DecidedAs t lent q kind requested d
+        → DecidedAs t size q kind requested d
     unfolding decided
     rules-decided d same good decides = record {
-      is = decides .is ∙ rw (h, eq-eqb lent (t .size) same, good);
-      ready = claim-follows (Ready t requested) (λ p. Ready t requested p × (lent ≡ t .size)) (λ p ready. (ready, same)) d (decides .ready);
+      is = decides .is ∙ rw (h, eq-eqb size (t .size) same, good);
+      deliverable = claim-follows (Deliverable t requested) (λ p. Deliverable t requested p × (size ≡ t .size)) (λ p h. (h, same)) d (decides .deliverable);
     }
 
 -- ## What a decision to deliver lets the parts and the bytes ask
 
-module _ (t : Target) (lent : ℕ) (q : Request) (kind : Kind) (requested : ℕ) (d : Decision) (decides : DecidedAs t lent q kind requested d) where
-  so : (Q : Plan → Type 0) → ((p : Plan) → Ready t requested p × (lent ≡ t .size) → Q p) → IfDelivered Q d
-  so Q follows = claim-follows (λ p. Ready t requested p × (lent ≡ t .size)) Q follows d (decides .ready)
+module _ (t : Target) (size : ℕ) (q : Request) (kind : Kind) (requested : ℕ) (d : Decision) (decides : DecidedAs t size q kind requested d) where
+  -- what follows for every delivery
+  for-delivery : (Q : Plan → Type 0) → ((p : Plan) → Deliverable t requested p × (size ≡ t .size) → Q p) → OfDelivery Q d
+  for-delivery Q follows = claim-follows (λ p. Deliverable t requested p × (size ≡ t .size)) Q follows d (decides .deliverable)
 
-  pub bytes-asked : IfDelivered (λ p. BytesFit lent requested (p .message)) d
-  bytes-asked = so _ (λ p h. rw (h .1) (h .0 .bytes))
+  pub bytes-asked : OfDelivery (λ p. BytesFit size requested (p .message)) d
+  bytes-asked = for-delivery _ (λ p h. rw (h .1) (h .0 .bytes))
 
-  pub entries-asked : IfDelivered (λ p. EntriesFit (t .entries) × (p .index < t .entries .count)) d
-  entries-asked = so _ (λ p h. (h .0 .fits .entries, h .0 .inside))
+  pub entries-asked : OfDelivery (λ p. EntriesFit (t .entries) × (p .index < t .entries .count)) d
+  entries-asked = for-delivery _ (λ p h. (h .0 .fits .entries, h .0 .inside))
 
-  pub unexpected-asked : IfDelivered (λ p. UnexpectedFit (t .unexpected) × (p .waits ≡ true → t .unexpected .count < HEADERS)) d
-  unexpected-asked = so _ (λ p h. (h .0 .fits .unexpected, h .0 .room))
+  pub unexpected-asked : OfDelivery (λ p. UnexpectedFit (t .unexpected) × (p .waits ≡ true → t .unexpected .count < HEADERS)) d
+  unexpected-asked = for-delivery _ (λ p h. (h .0 .fits .unexpected, h .0 .room))
 
-  pub queue-asked : IfDelivered (λ p. QueueFits (t .queue)) d
-  queue-asked = so _ (λ p h. h .0 .fits .queue)
+  pub queue-asked : OfDelivery (λ p. QueueFits (t .queue)) d
+  queue-asked = for-delivery _ (λ p h. h .0 .fits .queue)

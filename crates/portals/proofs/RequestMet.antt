@@ -1,6 +1,6 @@
 -- How put and get keep their promises: where the decision is the rules', and every part, the answer and the buffer are left as it says.
 use mathlib.Core.Path.{_≡_, refl, ap, sym, _∙_, subst}
-use mathlib.Core.Bool.{Bool, true, false, false≢true}
+use mathlib.Core.Bool.{Bool, true, false, cond, false≢true}
 use mathlib.Core.List.{List}
 use Prim.Native.Nat.{ℕ}
 use lib.ListN.{length}
@@ -13,11 +13,6 @@ use Rattle.state.specs.View.{View, entriesOf, headersOf, queueOf, viewOf}
 use Rattle.state.specs.Soundness.{soundView, countsKept, isSound, sound, seen}
 use Rattle.state.specs.Events.{postAll}
 use Rattle.state.specs.Parts.{EntriesHold, UnexpectedHold, QueueHolds}
-use Rattle.state.specs.declared.layout.Entries.{Entries}
-use Rattle.state.specs.declared.layout.Unexpected.{Unexpected}
-use Rattle.state.specs.declared.layout.Queue.{Queue}
-use Rattle.state.specs.declared.layout.Counters.{Counters}
-use Rattle.state.specs.declared.layout.Registers.{Registers}
 use Rattle.state.specs.declared.layout.Target.{Target}
 use Rattle.state.proofs.SoundLaws.{Sound, sound-parts, target-sound, facts-sound}
 use Rattle.requests.specs.Plan.{entriesAfter, headersAfter, requestEvents, countersAfter, bytesPut, bytesGot}
@@ -28,59 +23,60 @@ use Rattle.requests.specs.declared.decision.Decision.{Decision}
 use Rattle.requests.specs.declared.decision.Decision.the-variants as Decision
 use Rattle.portals.specs.Answers.{Answer, isRefused}
 use Rattle.portals.specs.Outcome.{Outcome}
-use Rattle.portals.specs.Request.{answerBy, decided, carriedOut, put, get, decisionIf, DecidedAs}
+use Rattle.portals.specs.Request.{answerBy, decided, carriedOut, put, get, DecidedAs}
 use Rattle.portals.specs.Promises.{Met}
 use Rattle.portals.proofs.RequestCalls.{put-sound, get-sound, delivery-answers}
 use Rattle.portals.proofs.MetLaws.{seen-sound, seen-unsound, sound-joined, fits-counts}
 
 -- ## The state that is left
 
--- the parts of a target after a decision on it
-pub record Left (t : Target) (d : Decision) (es : Entries) (us : Unexpected) (q : Queue) (cs : Counters) (rs : Registers) : Type 0 where
-  pub entries : Changed (t .entries) (λ p. EntriesHold es (entriesAfter (entriesOf (t .entries)) p)) d es
-  pub unexpected : Changed (t .unexpected) (λ p. UnexpectedHold us (headersAfter (headersOf (t .unexpected)) p)) d us
-  pub queue : Changed (t .queue) (λ p. QueueHolds q (postAll (queueOf (t .queue)) (requestEvents p))) d q
-  pub counters : Changed (t .counters) (λ p. cs .slots ≡ countersAfter (t .counters .slots) p) d cs
-  pub registers : rs ≡ registersAfter (t .registers) d
+-- a target after a decision on it, part by part
+pub record Left (t : Target) (d : Decision) (t′ : Target) : Type 0 where
+  pub size : t′ .size ≡ t .size
+  pub last : t′ .last ≡ t .last
+  pub entries : Changed (t .entries) (λ p. EntriesHold (t′ .entries) (entriesAfter (entriesOf (t .entries)) p)) d (t′ .entries)
+  pub unexpected : Changed (t .unexpected) (λ p. UnexpectedHold (t′ .unexpected) (headersAfter (headersOf (t .unexpected)) p)) d (t′ .unexpected)
+  pub queue : Changed (t .queue) (λ p. QueueHolds (t′ .queue) (postAll (queueOf (t .queue)) (requestEvents p))) d (t′ .queue)
+  pub counters : Changed (t .counters) (λ p. t′ .counters .slots ≡ countersAfter (t .counters .slots) p) d (t′ .counters)
+  pub registers : t′ .registers ≡ registersAfter (t .registers) d
 
-module _ (t : Target) (es : Entries) (us : Unexpected) (q : Queue) (cs : Counters) (rs : Registers) where
-  abbrev pub after : Target
-  after = record {
-    size = t .size;
-    last = t .last;
-    entries = es;
-    unexpected = us;
-    queue = q;
-    counters = cs;
-    registers = rs;
-  }
-
+module _ (t t′ : Target) where
   -- what it holds is what the decision says
-  after-view : (d : Decision) → Left t d es us q cs rs → viewOf after ≡ requestState (viewOf t) d
-  after-view (Decision.Refuse r) l = rw (l .entries, l .unexpected, l .queue, l .counters, l .registers)
-  after-view Decision.Drop l = rw (l .entries, l .unexpected, l .queue, l .counters, l .registers)
-  after-view Decision.DenyPermission l = rw (l .entries, l .unexpected, l .queue, l .counters, l .registers)
-  after-view Decision.DenyOperation l = rw (l .entries, l .unexpected, l .queue, l .counters, l .registers)
-  after-view (Decision.Deliver p) l = rw (l .entries .held, l .unexpected .held, l .queue .held, l .counters, l .registers)
+  left-view : (d : Decision) → Left t d t′ → viewOf t′ ≡ requestState (viewOf t) d
+  left-view (Decision.Refuse r) l = rw (l .size, l .last, l .entries, l .unexpected, l .queue, l .counters, l .registers)
+  left-view Decision.Drop l = rw (l .size, l .last, l .entries, l .unexpected, l .queue, l .counters, l .registers)
+  left-view Decision.DenyPermission l = rw (l .size, l .last, l .entries, l .unexpected, l .queue, l .counters, l .registers)
+  left-view Decision.DenyOperation l = rw (l .size, l .last, l .entries, l .unexpected, l .queue, l .counters, l .registers)
+  left-view (Decision.Deliver p) l =
+      rw (l .size, l .last, l .entries .held, l .unexpected .held, l .queue .held, l .counters, l .registers)
 
   -- its counts are kept
-  after-counts : (d : Decision) → countsKept t ≡ true → Left t d es us q cs rs → countsKept after ≡ true
-  after-counts (Decision.Refuse r) h l = rw (l .entries, l .unexpected, l .queue) h
-  after-counts Decision.Drop h l = rw (l .entries, l .unexpected, l .queue) h
-  after-counts Decision.DenyPermission h l = rw (l .entries, l .unexpected, l .queue) h
-  after-counts Decision.DenyOperation h l = rw (l .entries, l .unexpected, l .queue) h
-  after-counts (Decision.Deliver p) h l =
-      fits-counts after (record { entries = l .entries .fits; unexpected = l .unexpected .fits; queue = l .queue .fits })
+  left-counts : (d : Decision) → countsKept t ≡ true → Left t d t′ → countsKept t′ ≡ true
+  left-counts (Decision.Refuse r) h l = rw (l .entries, l .unexpected, l .queue) h
+  left-counts Decision.Drop h l = rw (l .entries, l .unexpected, l .queue) h
+  left-counts Decision.DenyPermission h l = rw (l .entries, l .unexpected, l .queue) h
+  left-counts Decision.DenyOperation h l = rw (l .entries, l .unexpected, l .queue) h
+  left-counts (Decision.Deliver p) h l =
+      fits-counts t′ (record { entries = l .entries .fits; unexpected = l .unexpected .fits; queue = l .queue .fits })
 
   -- after a refusal it is the very same
-  refused-same : (r : Refusal) → Left t (Decision.Refuse r) es us q cs rs → after ≡ t
-  refused-same r l = rw (l .entries, l .unexpected, l .queue, l .counters, l .registers)
+  refused-same : (r : Refusal) → Left t (Decision.Refuse r) t′ → t′ ≡ t
+  refused-same r l =
+      let same : _≡_ {A = Target}
+      (record {
+        size = t′ .size;
+        last = t′ .last;
+        entries = t′ .entries;
+        unexpected = t′ .unexpected;
+        queue = t′ .queue;
+        counters = t′ .counters;
+        registers = t′ .registers;
+      })
+      t = rw (l .size, l .last, l .entries, l .unexpected, l .queue, l .counters, l .registers) in
+      same
 
   -- and so it is wherever the answer is a refusal
-  refusal-same : (kind : Kind) (ack : ℕ) (d : Decision)
-      → Left t d es us q cs rs
-      → isRefused (answerBy kind ack d) ≡ true
-      → after ≡ t
+  refusal-same : (kind : Kind) (ack : ℕ) (d : Decision) → Left t d t′ → isRefused (answerBy kind ack d) ≡ true → t′ ≡ t
   refusal-same kind ack (Decision.Refuse r) l e = refused-same r l
   refusal-same kind ack Decision.Drop l e = absurd (false≢true e)
   refusal-same kind ack Decision.DenyPermission l e = absurd (false≢true e)
@@ -89,62 +85,59 @@ module _ (t : Target) (es : Entries) (us : Unexpected) (q : Queue) (cs : Counter
 
 -- ## The promise
 
-module _ (call : View → Outcome View (List ℕ)) (m : ℕ) (x : Request) (kind : Kind) (requested : ℕ) (moved : Plan → List ℕ) (lent : List ℕ)
-    (is : (v : View) → call v ≡ carriedOut v x kind moved lent (decided v m x kind requested)) (kept : (v : View) → Sound v → Sound (call v .state))
-    (t : Target) (es : Entries) (us : Unexpected) (q : Queue) (cs : Counters) (rs : Registers) (answer : Answer) (left : List ℕ) where
+module _ (call : View → Outcome View (List ℕ)) (size : ℕ) (q : Request) (kind : Kind) (requested : ℕ) (moved : Plan → List ℕ) (lent : List ℕ)
+    (is : (v : View) → call v ≡ carriedOut v q kind moved lent (decided v size q kind requested)) (kept : (v : View) → Sound v → Sound (call v .state))
+    (t t′ : Target) (answer : Answer) (left : List ℕ) where
   met-if : (isSoundHere : Bool) → isSound t ≡ isSoundHere → (d : Decision)
-      → d ≡ decisionIf isSoundHere (decided (viewOf t) m x kind requested)
-      → Left t d es us q cs rs
-      → answer ≡ answerBy kind (x .ack) d
+      → d ≡ cond isSoundHere (decided (viewOf t) size q kind requested) (Decision.Refuse Refusal.BadState)
+      → Left t d t′
+      → answer ≡ answerBy kind (q .ack) d
       → left ≡ ifDelivered moved lent d
-      → Met call t lent answer (after t es us q cs rs) left
-  met-if false h d e l answers moves = record {
-    outcome =
-        let same = refused-same t es us q cs rs Refusal.BadState (subst (λ (b : Decision). Left t b es us q cs rs) e l) in
-        rw (answers, moves, e, same, seen-unsound t h);
-    unchanged = λ f. refusal-same t es us q cs rs kind (x .ack) d l (sym (ap isRefused answers) ∙ f);
-  }
+      → Met call t lent answer t′ left
+  met-if false h d e l answers moves =
+      let same = refused-same t t′ Refusal.BadState (subst (λ (b : Decision). Left t b t′) e l) in
+      record {
+        outcome = rw (answers, moves, e, same, seen-unsound t h);
+        unchanged = λ f. same;
+      }
   met-if true h d e l answers moves =
       let v = viewOf t in
-      let by : call v ≡ carriedOut v x kind moved lent d = is v ∙ ap (carriedOut v x kind moved lent) (sym e) in
-      let view : viewOf (after t es us q cs rs) ≡ call v .state = after-view t es us q cs rs d l ∙ sym (ap (λ (o : Outcome View (List ℕ)). o .state) by) in
-      let s : seen (after t es us q cs rs) ≡ sound (call v .state) =
-      seen-sound (after t es us q cs rs)
-      (sound-joined (after t es us q cs rs) (after-counts t es us q cs rs d (sound-parts t h .0) l)
-      (ap soundView view ∙ facts-sound (call v .state) (kept v (target-sound t h))))
-      ∙ ap sound view in
+      let by : call v ≡ carriedOut v q kind moved lent d = is v ∙ ap (carriedOut v q kind moved lent) (sym e) in
+      let view : viewOf t′ ≡ call v .state = left-view t t′ d l ∙ sym (ap (λ (o : Outcome View (List ℕ)). o .state) by) in
+      let counts = left-counts t t′ d (sound-parts t h .0) l in
+      let holds : soundView (viewOf t′) ≡ true = ap soundView view ∙ facts-sound (call v .state) (kept v (target-sound t h)) in
+      let s : seen t′ ≡ sound (call v .state) = seen-sound t′ (sound-joined t′ counts holds) ∙ ap sound view in
       record {
         outcome = rw (s, answers, moves, seen-sound t h, by);
-        unchanged = λ f. refusal-same t es us q cs rs kind (x .ack) d l (sym (ap isRefused answers) ∙ f);
+        unchanged = λ f. refusal-same t t′ kind (q .ack) d l (sym (ap isRefused answers) ∙ f);
       }
 
   -- a request that is decided as the rules say, and ends as its decision says, keeps its promise
-  pub request-met : (d : Decision)
-      → d ≡ decisionIf (isSound t) (decided (viewOf t) m x kind requested)
-      → Left t d es us q cs rs
-      → answer ≡ answerBy kind (x .ack) d
+  request-met : (d : Decision)
+      → d ≡ cond (isSound t) (decided (viewOf t) size q kind requested) (Decision.Refuse Refusal.BadState)
+      → Left t d t′
+      → answer ≡ answerBy kind (q .ack) d
       → left ≡ ifDelivered moved lent d
-      → Met call t lent answer (after t es us q cs rs) left
+      → Met call t lent answer t′ left
   request-met d e l answers moves = met-if (isSound t) refl d e l answers moves
 
-module _ (t : Target) (memory : List ℕ) (x : Request) (es : Entries) (us : Unexpected) (q : Queue) (cs : Counters) (rs : Registers)
-    (answer : Answer) (d : Decision) (left : Left t d es us q cs rs) where
+module _ (t : Target) (memory : List ℕ) (q : Request) (t′ : Target) (answer : Answer) (d : Decision) (left : Left t d t′) where
   pub put-met : (payload memory′ : List ℕ)
-      → DecidedAs t (length memory) x Kind.Put (length payload) d
-      → answer ≡ answerBy Kind.Put (x .ack) d
+      → DecidedAs t (length memory) q Kind.Put (length payload) d
+      → answer ≡ answerBy Kind.Put (q .ack) d
       → memory′ ≡ ifDelivered (bytesPut memory payload) memory d
-      → Met (λ v. put v memory x payload) t memory answer (after t es us q cs rs) memory′
+      → Met (λ v. put v memory q payload) t memory answer t′ memory′
   unfolding put
   put-met payload memory′ decides answers moves =
-      request-met (λ v. put v memory x payload) (length memory) x Kind.Put (length payload) (bytesPut memory payload) memory
-      (λ v. refl) (λ v. put-sound v memory x payload) t es us q cs rs answer memory′ d (decides .is) left answers moves
+      request-met (λ v. put v memory q payload) (length memory) q Kind.Put (length payload) (bytesPut memory payload) memory
+      (λ v. refl) (λ v. put-sound v memory q payload) t t′ answer memory′ d (decides .is) left answers moves
 
   pub get-met : (reply reply′ : List ℕ)
-      → DecidedAs t (length memory) x Kind.Get (length reply) d
-      → answer ≡ answerBy Kind.Get (x .ack) d
+      → DecidedAs t (length memory) q Kind.Get (length reply) d
+      → answer ≡ answerBy Kind.Get (q .ack) d
       → reply′ ≡ ifDelivered (bytesGot memory reply) reply d
-      → Met (λ v. get v memory x reply) t reply answer (after t es us q cs rs) reply′
+      → Met (λ v. get v memory q reply) t reply answer t′ reply′
   unfolding get
   get-met reply reply′ decides answers moves =
-      request-met (λ v. get v memory x reply) (length memory) x Kind.Get (length reply) (bytesGot memory reply) reply
-      (λ v. refl) (λ v. get-sound v memory x reply) t es us q cs rs answer reply′ d (decides .is) left answers moves
+      request-met (λ v. get v memory q reply) (length memory) q Kind.Get (length reply) (bytesGot memory reply) reply
+      (λ v. refl) (λ v. get-sound v memory q reply) t t′ answer reply′ d (decides .is) left answers moves

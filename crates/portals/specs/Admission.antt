@@ -1,4 +1,4 @@
--- Whether a call is admitted: the first step of every call, by which its other steps go.
+-- Whether a call is admitted: its first step, by which its other steps go. Put and get have a decision in its place (Request.antt).
 use mathlib.Core.Path.{_≡_}
 use mathlib.Core.Bool.{Bool, true, false}
 use mathlib.Core.List.{List}

@@ -11,7 +11,7 @@ pub record Condition : Type 0 where
   pub passed : Bool
   pub refusal : Refusal
 
--- ARG_INVALID: the first bad argument of the call is none
+-- ARG_INVALID, unless no argument of the call is bad
 abbrev pub goodArguments : BadArgument → Condition
 goodArguments argument = record { passed = noneBad argument; refusal = Refusal.ArgInvalid }
 

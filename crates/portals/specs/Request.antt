@@ -1,6 +1,6 @@
 -- Document 01, "Request": put and get. What becomes of a request, and what that leaves, is in `requests` (rules 3 to 7).
 use mathlib.Core.Path.{_≡_}
-use mathlib.Core.Bool.{Bool, true, false, cond}
+use mathlib.Core.Bool.{cond}
 use mathlib.Core.List.{List, [], _∷_}
 use Prim.Native.Nat.{ℕ}
 use lib.Dec.{eqb}
@@ -16,7 +16,7 @@ use Rattle.state.specs.Soundness.{isSound}
 use Rattle.state.specs.declared.layout.Target.{Target}
 use Rattle.requests.specs.Plan.{bytesPut, bytesGot}
 use Rattle.requests.specs.Decision.{decide, ifDelivered, requestState}
-use Rattle.requests.specs.Parts.{IfDelivered, Ready}
+use Rattle.requests.specs.Parts.{OfDelivery, Deliverable}
 use Rattle.requests.specs.declared.plan.Plan.{Plan}
 use Rattle.requests.specs.declared.decision.Decision.{Decision}
 use Rattle.requests.specs.declared.decision.Decision.the-variants as Decision
@@ -45,15 +45,15 @@ answerBy kind ack (Decision.Deliver p) = deliveryAnswer kind ack p
 
 -- BAD_MEMORY: "put or get: memory length differs from the state's", then ARG_INVALID
 abbrev pub requestTests : View → ℕ → Request → ℕ → List Condition
-requestTests v lent q requested =
-    record { passed = eqb lent (v .size); refusal = Refusal.BadMemory }
+requestTests v size q requested =
+    record { passed = eqb size (v .size); refusal = Refusal.BadMemory }
     ∷ goodArguments (badRequestArgument q requested)
     ∷ []
 
--- what becomes of a request for so many bytes, with a memory of so many lent
+-- what becomes of a request for so many bytes, with a memory of this size lent
 unfoldable pub decided : View → ℕ → Request → Kind → ℕ → Decision
-decided v lent q kind requested =
-    unlessRefused Decision.Refuse (requestTests v lent q requested)
+decided v size q kind requested =
+    unlessRefused Decision.Refuse (requestTests v size q requested)
     (decide (v .entries) (v .headers) (q .portal) (arrivalOf q kind requested))
 
 -- what it answers and leaves; `moved`: the lent buffer with the bytes that a delivery moves
@@ -76,12 +76,7 @@ get v memory q reply =
 
 -- ## The decision as the calls make it
 
--- on any state: BAD_STATE comes before the tests
-abbrev pub decisionIf : Bool → Decision → Decision
-decisionIf true d = d
-decisionIf false d = Decision.Refuse Refusal.BadState
-
--- a delivery is decided only where it can be carried out, on the memory that is lent
-pub record DecidedAs (t : Target) (lent : ℕ) (q : Request) (kind : Kind) (requested : ℕ) (d : Decision) : Type 0 where
-  pub is : d ≡ decisionIf (isSound t) (decided (viewOf t) lent q kind requested)
-  pub ready : IfDelivered (λ p. Ready t requested p × (lent ≡ t .size)) d
+-- on any state, BAD_STATE before the tests; a delivery is decided only where it can be carried out, on a memory of the state's size
+pub record DecidedAs (t : Target) (size : ℕ) (q : Request) (kind : Kind) (requested : ℕ) (d : Decision) : Type 0 where
+  pub is : d ≡ cond (isSound t) (decided (viewOf t) size q kind requested) (Decision.Refuse Refusal.BadState)
+  pub deliverable : OfDelivery (λ p. Deliverable t requested p × (size ≡ t .size)) d

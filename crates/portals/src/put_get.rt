@@ -18,17 +18,17 @@ ghost use Rattle.portals.specs.Answers.{requestAnswer};
 ghost use Rattle.portals.specs.Request.{deliveryAnswer, answerBy, DecidedAs};
 ghost use Rattle.portals.specs.Promises.{PutMet, GetMet};
 
-// What becomes of a request for so many bytes, with a memory of so many lent: its tests in order, then the rules.
-fn decided(t: Target, lent: usize, q: Request, kind: Kind, requested: usize) -> Decision
-    ensures { λ r. ⌜ DecidedAs t lent q kind requested r ⌝ }
+// What becomes of a request for so many bytes, with a memory of this size lent: its tests in order, then the rules.
+fn decided(t: Target, size: usize, q: Request, kind: Kind, requested: usize) -> Decision
+    ensures { λ r. ⌜ DecidedAs t size q kind requested r ⌝ }
 {
-    let bad = request::bad_request_argument(q, requested);
     if !soundness::sound(t) {
         return Decision::Refuse(Refusal::BadState);
     }
-    if lent != t.size as usize {
+    if size != t.size as usize {
         return Decision::Refuse(Refusal::BadMemory);
     }
+    let bad = request::bad_request_argument(q, requested);
     if !refusals::none_bad(bad) {
         return Decision::Refuse(Refusal::ArgInvalid);
     }

@@ -6,7 +6,7 @@ use types.Run.{OneOf, miss}
 use Rattle.matching.specs.declared.refusals.Refusal.{Refusal}
 use Rattle.state.specs.declared.layout.Registers.{Registers}
 use Rattle.requests.specs.Decision.{registersAfter, ifDelivered}
-use Rattle.requests.specs.Parts.{IfDelivered, Changed}
+use Rattle.requests.specs.Parts.{OfDelivery, Changed}
 use Rattle.requests.specs.declared.plan.Plan.{Plan}
 use Rattle.requests.specs.declared.decision.Decision.{Decision}
 use Rattle.requests.specs.declared.decision.Decision.the-variants as Decision
@@ -16,7 +16,7 @@ use Rattle.requests.proofs.decision.Decision.{the-type}
 
 module _ (d : Decision) (p : Plan) (is : d ≡ Decision.Deliver p) where
   -- what is claimed of a delivery holds of its plan
-  pub of-delivered : (claim : Plan → Type 0) → IfDelivered claim d → claim p
+  pub of-delivered : (claim : Plan → Type 0) → OfDelivery claim d → claim p
   of-delivered claim held = rw is at held
 
   -- it does what its plan says
@@ -30,7 +30,7 @@ module _ (d : Decision) (p : Plan) (is : d ≡ Decision.Deliver p) where
 -- ## Every decision
 
 -- where a claim about a delivery follows from another
-pub claim-follows : (P Q : Plan → Type 0) → ((p : Plan) → P p → Q p) → (d : Decision) → IfDelivered P d → IfDelivered Q d
+pub claim-follows : (P Q : Plan → Type 0) → ((p : Plan) → P p → Q p) → (d : Decision) → OfDelivery P d → OfDelivery Q d
 claim-follows P Q follows (Decision.Refuse r) held = tt
 claim-follows P Q follows Decision.Drop held = tt
 claim-follows P Q follows Decision.DenyPermission held = tt

@@ -24,12 +24,12 @@ abbrev pub BytesFit : ℕ → ℕ → Header → Type 0
 BytesFit memory requested h = (h .place + h .accepted ≤ memory) × (h .accepted ≤ requested)
 
 -- a claim about a delivery; nothing is claimed of another decision
-abbrev pub IfDelivered : (Plan → Type 0) → Decision → Type 0
-IfDelivered claim (Decision.Refuse r) = Unit
-IfDelivered claim Decision.Drop = Unit
-IfDelivered claim Decision.DenyPermission = Unit
-IfDelivered claim Decision.DenyOperation = Unit
-IfDelivered claim (Decision.Deliver p) = claim p
+abbrev pub OfDelivery : (Plan → Type 0) → Decision → Type 0
+OfDelivery claim (Decision.Refuse r) = Unit
+OfDelivery claim Decision.Drop = Unit
+OfDelivery claim Decision.DenyPermission = Unit
+OfDelivery claim Decision.DenyOperation = Unit
+OfDelivery claim (Decision.Deliver p) = claim p
 
 -- a part of the state after a decision: what a delivery makes of it, else the very same
 abbrev pub Changed : {S : Type 0} → S → (Plan → Type 0) → Decision → S → Type 0
@@ -39,9 +39,9 @@ Changed part makes Decision.DenyPermission part′ = part′ ≡ part
 Changed part makes Decision.DenyOperation part′ = part′ ≡ part
 Changed part makes (Decision.Deliver p) part′ = makes p
 
--- a delivery of a request for so many bytes can be carried out: the parts fit, the entry is at its place, its header finds room, and
--- the bytes fit
-pub record Ready (t : Target) (requested : ℕ) (p : Plan) : Type 0 where
+-- a delivery of a request for so many bytes can be carried out: the parts fit, the place is in use, the header finds room, and the
+-- bytes fit
+pub record Deliverable (t : Target) (requested : ℕ) (p : Plan) : Type 0 where
   pub fits : TargetFits t
   pub inside : p .index < t .entries .count
   pub room : p .waits ≡ true → t .unexpected .count < HEADERS
@@ -50,4 +50,4 @@ pub record Ready (t : Target) (requested : ℕ) (p : Plan) : Type 0 where
 -- rules 3 and 4 on a sound state
 pub record Decides (t : Target) (portal : ℕ) (a : Arrival) (d : Decision) : Type 0 where
   pub is : d ≡ decide (entriesOf (t .entries)) (headersOf (t .unexpected)) portal a
-  pub ready : IfDelivered (Ready t (a .requested)) d
+  pub deliverable : OfDelivery (Deliverable t (a .requested)) d

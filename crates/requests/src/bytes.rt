@@ -7,7 +7,7 @@ ghost use lib.ListN.{length, take, drop};
 ghost use Rattle.state.specs.Lists.{overwritten};
 ghost use Rattle.requests.specs.Plan.{bytesPut, bytesGot};
 ghost use Rattle.requests.specs.Decision.{ifDelivered};
-ghost use Rattle.requests.specs.Parts.{BytesFit, IfDelivered};
+ghost use Rattle.requests.specs.Parts.{BytesFit, OfDelivery};
 
 // Fills a part with the first bytes of `from`.
 fn fill(part: &mut [u8], from: &[u8])
@@ -42,9 +42,9 @@ fn get_message(reply: &mut [u8], h: Header, memory: &[u8])
     fill(&mut reply[..n], &memory[place..]);
 }
 
-// The memory after a put: its message moves where it is delivered.
+// Where a put is delivered its message goes to the memory; else the memory stays.
 pub fn bytes_put(memory: &mut [u8], d: Decision, payload: &[u8])
-    requires { ⌜ IfDelivered (λ p. BytesFit (length (now memory)) (length (now payload)) (p .message)) d ⌝ }
+    requires { ⌜ OfDelivery (λ p. BytesFit (length (now memory)) (length (now payload)) (p .message)) d ⌝ }
     ensures { λ _. ⌜ now (memory .exit) ≡ ifDelivered (bytesPut (now (memory .entry)) (now (payload .entry))) (now (memory .entry)) d ⌝ }
 {
     match d {
@@ -53,9 +53,9 @@ pub fn bytes_put(memory: &mut [u8], d: Decision, payload: &[u8])
     }
 }
 
-// The reply after a get.
+// Where a get is delivered its message goes to the reply; else the reply stays.
 pub fn bytes_got(reply: &mut [u8], d: Decision, memory: &[u8])
-    requires { ⌜ IfDelivered (λ p. BytesFit (length (now memory)) (length (now reply)) (p .message)) d ⌝ }
+    requires { ⌜ OfDelivery (λ p. BytesFit (length (now memory)) (length (now reply)) (p .message)) d ⌝ }
     ensures { λ _. ⌜ now (reply .exit) ≡ ifDelivered (bytesGot (now (memory .entry)) (now (reply .entry))) (now (reply .entry)) d ⌝ }
 {
     match d {

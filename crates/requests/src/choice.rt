@@ -8,14 +8,14 @@ ghost use Rattle.state.specs.View.{entriesOf};
 ghost use Rattle.state.specs.Parts.{EntriesFit};
 ghost use Rattle.requests.specs.Choice.{isIn, isCandidate, choiceIn, choose};
 
-// A place among the entries, in one of the two lists.
+// The entry that is chosen: its place among all entries, by the list that it stands in; or nothing.
 pub enum Choice {
     Priority(usize),
     Overflow(usize),
     Nothing,
 }
 
-// The entry stands in the portal's list of this number: 0 priority, 1 overflow.
+// The entry stands in the portal's list of this number: 0 priority, 1 overflow. A retired entry stands in none.
 fn is_in(x: HeldEntry, portal: u16, list: u8) -> bool
     ensures { λ r. ⌜ r ≡ isIn portal list x ⌝ }
 {

@@ -23,15 +23,17 @@ ghost use Rattle.requests.specs.Decision.{hasRoom, decideBy, decideAt};
 ghost use Rattle.requests.specs.Parts.{Bounded, Decides};
 
 pub enum Decision {
-    // Not let in: the call is refused.
+    // By a test of the call; the rules never give it.
     Refuse(Refusal),
+    // DROPPED, PERM, OP.
     Drop,
     DenyPermission,
     DenyOperation,
+    // PRIORITY or OVERFLOW.
     Deliver(Plan),
 }
 
-// A header of what the entry accepts finds a place, if it leaves one.
+// There is room for the header of a request that the entry accepts, or it leaves none.
 fn has_room(us: Unexpected, x: HeldEntry) -> bool
     requires { ⌜ UnexpectedFit us ⌝ }
     ensures { λ r. ⌜ r ≡ hasRoom (headersOf us) x ⌝ }
@@ -75,6 +77,7 @@ pub fn decide(t: Target, portal: u16, a: Arrival) -> Decision
     requires { ⌜ isSound t ≡ true ⌝ }
     ensures { λ r. ⌜ Decides t portal a r ⌝ }
 {
+    // Both lists are asked alike; the answer tells them apart by the entry's own list.
     match choice::choose(t.entries, portal, a) {
         Choice::Priority(k) => decide_at(t, k, portal, a),
         Choice::Overflow(k) => decide_at(t, k, portal, a),

@@ -23,7 +23,7 @@ ghost use Rattle.state.specs.Events.{postAll};
 ghost use Rattle.state.specs.Parts.{EntriesFit, EntriesHold, UnexpectedFit, UnexpectedHold, QueueFits, QueueHolds};
 ghost use Rattle.requests.specs.Plan.{entriesAfter, headersAfter, requestEvents, countersAfter};
 ghost use Rattle.requests.specs.Decision.{registersAfter};
-ghost use Rattle.requests.specs.Parts.{IfDelivered, Changed};
+ghost use Rattle.requests.specs.Parts.{OfDelivery, Changed};
 
 // Rules 6 and 7: the entries after a delivery.
 fn entries_delivered(es: Entries, p: Plan) -> Entries
@@ -39,7 +39,7 @@ fn entries_delivered(es: Entries, p: Plan) -> Entries
 }
 
 pub fn entries_after(es: Entries, d: Decision) -> Entries
-    requires { ⌜ IfDelivered (λ p. (EntriesFit es) × (p .index < es .count)) d ⌝ }
+    requires { ⌜ OfDelivery (λ p. (EntriesFit es) × (p .index < es .count)) d ⌝ }
     ensures { λ r. ⌜ Changed es (λ p. EntriesHold r (entriesAfter (entriesOf es) p)) d r ⌝ }
 {
     match d {
@@ -62,7 +62,7 @@ fn unexpected_delivered(us: Unexpected, p: Plan) -> Unexpected
 }
 
 pub fn unexpected_after(us: Unexpected, d: Decision) -> Unexpected
-    requires { ⌜ IfDelivered (λ p. (UnexpectedFit us) × ((p .waits ≡ true) → (us .count < HEADERS))) d ⌝ }
+    requires { ⌜ OfDelivery (λ p. (UnexpectedFit us) × ((p .waits ≡ true) → (us .count < HEADERS))) d ⌝ }
     ensures { λ r. ⌜ Changed us (λ p. UnexpectedHold r (headersAfter (headersOf us) p)) d r ⌝ }
 {
     match d {
@@ -87,7 +87,7 @@ fn queue_delivered(q: Queue, p: Plan) -> Queue
 }
 
 pub fn queue_after(q: Queue, d: Decision) -> Queue
-    requires { ⌜ IfDelivered (λ p. QueueFits q) d ⌝ }
+    requires { ⌜ OfDelivery (λ p. QueueFits q) d ⌝ }
     ensures { λ r. ⌜ Changed q (λ p. QueueHolds r (postAll (queueOf q) (requestEvents p))) d r ⌝ }
 {
     match d {

@@ -8,17 +8,14 @@ use Rattle.portals.proofs.RequestCalls.{requested-fits, unsound-decided
 use Rattle.portals.proofs.put_get.decided.Statement.{statement}
 use Rattle.portals.proofs.put_get.decided.Tie as tie
 
-bad-request-argument-requires : tie.Need-bad-request-argument-requires
-bad-request-argument-requires c κs = search needs
-
 sound-requires : tie.Need-sound-requires
 sound-requires c κs = search needs
 
 returns : tie.Need-returns
 returns c =
     let s = c .before in
-    let a = s .before .before .args in
-    unsound-decided (a .t) (a .lent) (a .q) (a .kind) (a .requested)
+    let a = s .before .args in
+    unsound-decided (a .t) (a .size) (a .q) (a .kind) (a .requested)
     (sym (s .sound .ensures .answer) ∙ not-true (s .sound .result) (c .if1 .taken))
 
 cast-if2 : tie.Need-cast-if2
@@ -28,10 +25,13 @@ returns-2 : tie.Need-returns-2
 returns-2 c =
     let p = c .before .before in
     let s = p .before in
-    let a = s .before .before .args in
-    memory-decided (a .t) (a .lent) (a .q) (a .kind) (a .requested)
+    let a = s .before .args in
+    memory-decided (a .t) (a .size) (a .q) (a .kind) (a .requested)
     (sym (s .sound .ensures .answer) ∙ not-false (s .sound .result) (p .if1 .left))
     (c .if2 .taken)
+
+bad-request-argument-requires : tie.Need-bad-request-argument-requires
+bad-request-argument-requires c κs = search needs
 
 none-bad-requires : tie.Need-none-bad-requires
 none-bad-requires c κs = search needs
@@ -39,12 +39,12 @@ none-bad-requires c κs = search needs
 returns-3 : tie.Need-returns-3
 returns-3 c =
     let n = c .before in
-    let m = n .before in
+    let b = n .before in
+    let m = b .before in
     let p = m .before .before in
     let s = p .before in
-    let b = s .before in
-    let a = b .before .args in
-    argument-decided (a .t) (a .lent) (a .q) (a .kind) (a .requested)
+    let a = s .before .args in
+    argument-decided (a .t) (a .size) (a .q) (a .kind) (a .requested)
     (sym (s .sound .ensures .answer) ∙ not-false (s .sound .result) (p .if1 .left))
     (m .if2 .left)
     (ap noneBad (sym (b .bad-request-argument .ensures)) ∙ sym (n .none-bad .ensures) ∙ not-true (n .none-bad .result) (c .if3 .taken))
@@ -52,8 +52,8 @@ returns-3 c =
 cast-arrival-of : tie.Need-cast-arrival-of
 cast-arrival-of c =
     let n = c .before in
-    let b = n .before .before .before .before .before in
-    let a = b .before .args in
+    let b = n .before in
+    let a = b .before .before .before .before .before .args in
     let fits =
     requested-fits (a .q) (a .requested)
     (ap noneBad (sym (b .bad-request-argument .ensures)) ∙ sym (n .none-bad .ensures) ∙ not-false (n .none-bad .result) (c .if3 .left)) in
@@ -64,7 +64,7 @@ arrival-of-requires c κs = search needs
 
 decide-requires : tie.Need-decide-requires
 decide-requires c κs =
-    let p = c .before .before .before .before .before in
+    let p = c .before .before .before .before .before .before in
     let s = p .before .sound in
     let passed = not-false (s .result) (p .if1 .left) in
     (s .ensures .fits passed, sym (s .ensures .answer) ∙ passed)
@@ -74,12 +74,12 @@ returns-4 c =
     let r = c .before in
     let l = r .before in
     let n = l .before in
-    let m = n .before in
+    let b = n .before in
+    let m = b .before in
     let p = m .before .before in
     let s = p .before in
-    let b = s .before in
-    let a = b .before .args in
-    rules-decided (a .t) (a .lent) (a .q) (a .kind) (a .requested)
+    let a = s .before .args in
+    rules-decided (a .t) (a .size) (a .q) (a .kind) (a .requested)
     (sym (s .sound .ensures .answer) ∙ not-false (s .sound .result) (p .if1 .left))
     (c .decide .result)
     (m .if2 .left)
@@ -90,11 +90,11 @@ pub decided-spec : {M : Type 1} → statement M
 decided-spec =
     tie.close
     (tie.spec
-    bad-request-argument-requires
     sound-requires
     returns
     cast-if2
     returns-2
+    bad-request-argument-requires
     none-bad-requires
     returns-3
     cast-arrival-of

@@ -1,5 +1,5 @@
 -- The decision is the rules', and each part is left as it says.
-use mathlib.Core.Path.{_≡_}
+use mathlib.Core.Path.{_≡_, refl}
 use lib.ListN.{length}
 use borrow.Author.Needs.{needs}
 use Rattle.matching.specs.declared.request.Kind.the-variants as Kind
@@ -61,9 +61,10 @@ returns c =
     let a = d .before .before .before .args in
     let answer = requestAnswer (c .answer-by .result) in
     let answers : answer ≡ answerBy Kind.Put (a .q .ack) (d .decided .result) = c .answer-by .ensures in
-    put-met (a .t) (a .memory .now) (a .q) (e .entries-after .result) (u .unexpected-after .result) (q .queue-after .result)
-    (k .counters-after .result) (r .registers-after .result) answer (d .decided .result)
+    put-met (a .t) (a .memory .now) (a .q) _ answer (d .decided .result)
     (record {
+      size = refl;
+      last = refl;
       entries = e .entries-after .ensures;
       unexpected = u .unexpected-after .ensures;
       queue = q .queue-after .ensures;

@@ -6,7 +6,7 @@ use Rattle.requests.specs.Choice.{choose}
 use Rattle.requests.specs.declared.choice.Choice.the-variants as Choice
 use Rattle.requests.specs.declared.decision.Decision.the-variants as Decision
 use Rattle.requests.proofs.ChoiceLaws.{priority-inside, overflow-inside}
-use Rattle.requests.proofs.ReadyLaws.{place-asked, decides}
+use Rattle.requests.proofs.DeliverableLaws.{place-asked, decides}
 use Rattle.requests.proofs.decision.decide.Statement.{statement}
 use Rattle.requests.proofs.decision.decide.Tie as tie
 

@@ -19,7 +19,7 @@ use Rattle.state.proofs.SoundLaws.{target-sound, EntryFacts, entry-facts, regio
 use Rattle.requests.specs.Plan.{message, plan}
 use Rattle.requests.specs.Choice.{choose}
 use Rattle.requests.specs.Decision.{decideOn, decide}
-use Rattle.requests.specs.Parts.{Bounded, IfDelivered, Ready, Decides}
+use Rattle.requests.specs.Parts.{Bounded, OfDelivery, Deliverable, Decides}
 use Rattle.requests.specs.declared.choice.Choice.{Choice}
 use Rattle.requests.specs.declared.decision.Decision.{Decision}
 use Rattle.requests.proofs.RequestKept.{Chosen, decide-cases, room-left}
@@ -54,10 +54,10 @@ place-asked t k fits sound h =
 
 module _ (t : Target) (portal : ℕ) (a : Arrival) (fits : TargetFits t) (sound : isSound t ≡ true) where
   -- the delivery to a chosen entry can be carried out
-  chosen-ready : (k : ℕ) → Chosen (entriesOf (t .entries)) (headersOf (t .unexpected)) portal k
-      → Ready t (a .requested) (plan (entriesOf (t .entries)) portal a k)
+  chosen-deliverable : (k : ℕ) → Chosen (entriesOf (t .entries)) (headersOf (t .unexpected)) portal k
+      → Deliverable t (a .requested) (plan (entriesOf (t .entries)) portal a k)
   unfolding message
-  chosen-ready k c =
+  chosen-deliverable k c =
       let x = entryAt (entriesOf (t .entries)) k in
       let inside : k < t .entries .count = rw (sym (in-use (fits .entries))) (c .inside) in
       let region = region-fits (x .entry) (t .size) (held-facts t k fits sound inside .good) in
@@ -86,7 +86,7 @@ module _ (t : Target) (portal : ℕ) (a : Arrival) (fits : TargetFits t) (sound 
       let is : d ≡ decide (entriesOf (t .entries)) (headersOf (t .unexpected)) portal a = e ∙ on-choice choice chosen in
       record {
         is = is;
-        ready =
-            subst (IfDelivered (Ready t (a .requested))) (sym is)
-            (decide-cases (entriesOf (t .entries)) (headersOf (t .unexpected)) portal a (IfDelivered (Ready t (a .requested))) tt tt tt chosen-ready);
+        deliverable =
+            subst (OfDelivery (Deliverable t (a .requested))) (sym is)
+            (decide-cases (entriesOf (t .entries)) (headersOf (t .unexpected)) portal a (OfDelivery (Deliverable t (a .requested))) tt tt tt chosen-deliverable);
       }
