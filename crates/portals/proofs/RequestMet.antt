@@ -9,40 +9,29 @@ use Rattle.matching.specs.declared.request.Kind.{Kind}
 use Rattle.matching.specs.declared.request.Kind.the-variants as Kind
 use Rattle.matching.specs.declared.refusals.Refusal.{Refusal}
 use Rattle.matching.specs.declared.refusals.Refusal.the-variants as Refusal
-use Rattle.state.specs.View.{View, entriesOf, headersOf, queueOf, viewOf}
+use Rattle.state.specs.View.{View, viewOf}
 use Rattle.state.specs.Soundness.{soundView, countsKept, isSound, sound, seen}
-use Rattle.state.specs.Events.{postAll}
-use Rattle.state.specs.Parts.{EntriesHold, UnexpectedHold, QueueHolds}
 use Rattle.state.specs.declared.layout.Target.{Target}
 use Rattle.state.proofs.SoundLaws.{Sound, sound-parts, target-sound, facts-sound}
-use Rattle.requests.specs.Plan.{entriesAfter, headersAfter, requestEvents, countersAfter, bytesPut, bytesGot}
-use Rattle.requests.specs.Decision.{registersAfter, ifDelivered, requestState}
-use Rattle.requests.specs.Parts.{Changed}
+use Rattle.requests.specs.Plan.{bytesPut, bytesGot}
+use Rattle.requests.specs.Decision.{ifDelivered, requestState}
+use Rattle.requests.specs.Parts.{TargetAfter}
 use Rattle.requests.specs.declared.plan.Plan.{Plan}
 use Rattle.requests.specs.declared.decision.Decision.{Decision}
 use Rattle.requests.specs.declared.decision.Decision.the-variants as Decision
-use Rattle.portals.specs.Answers.{Answer, isRefused}
+use Rattle.portals.specs.Answers.{Answer, isRefused, requestAnswer}
 use Rattle.portals.specs.Outcome.{Outcome}
-use Rattle.portals.specs.Request.{answerBy, decided, carriedOut, put, get, DecidedAs}
-use Rattle.portals.specs.Promises.{Met}
+use Rattle.portals.specs.Request.{answerBy, decided, carriedOut, put, get, DecidedAs, EndedBy}
+use Rattle.portals.specs.declared.answers.RequestDone.{RequestDone}
+use Rattle.portals.specs.Promises.{Met, PutMet, GetMet}
 use Rattle.portals.proofs.RequestCalls.{put-sound, get-sound, delivery-answers}
 use Rattle.portals.proofs.MetLaws.{seen-sound, seen-unsound, sound-joined, fits-counts}
 
 -- ## The state that is left
 
--- a target after a decision on it, part by part
-pub record Left (t : Target) (d : Decision) (t′ : Target) : Type 0 where
-  pub size : t′ .size ≡ t .size
-  pub last : t′ .last ≡ t .last
-  pub entries : Changed (t .entries) (λ p. EntriesHold (t′ .entries) (entriesAfter (entriesOf (t .entries)) p)) d (t′ .entries)
-  pub unexpected : Changed (t .unexpected) (λ p. UnexpectedHold (t′ .unexpected) (headersAfter (headersOf (t .unexpected)) p)) d (t′ .unexpected)
-  pub queue : Changed (t .queue) (λ p. QueueHolds (t′ .queue) (postAll (queueOf (t .queue)) (requestEvents p))) d (t′ .queue)
-  pub counters : Changed (t .counters) (λ p. t′ .counters .slots ≡ countersAfter (t .counters .slots) p) d (t′ .counters)
-  pub registers : t′ .registers ≡ registersAfter (t .registers) d
-
 module _ (t t′ : Target) where
   -- what it holds is what the decision says
-  left-view : (d : Decision) → Left t d t′ → viewOf t′ ≡ requestState (viewOf t) d
+  left-view : (d : Decision) → TargetAfter t d t′ → viewOf t′ ≡ requestState (viewOf t) d
   left-view (Decision.Refuse r) l = rw (l .size, l .last, l .entries, l .unexpected, l .queue, l .counters, l .registers)
   left-view Decision.Drop l = rw (l .size, l .last, l .entries, l .unexpected, l .queue, l .counters, l .registers)
   left-view Decision.DenyPermission l = rw (l .size, l .last, l .entries, l .unexpected, l .queue, l .counters, l .registers)
@@ -51,7 +40,7 @@ module _ (t t′ : Target) where
       rw (l .size, l .last, l .entries .held, l .unexpected .held, l .queue .held, l .counters, l .registers)
 
   -- its counts are kept
-  left-counts : (d : Decision) → countsKept t ≡ true → Left t d t′ → countsKept t′ ≡ true
+  left-counts : (d : Decision) → countsKept t ≡ true → TargetAfter t d t′ → countsKept t′ ≡ true
   left-counts (Decision.Refuse r) h l = rw (l .entries, l .unexpected, l .queue) h
   left-counts Decision.Drop h l = rw (l .entries, l .unexpected, l .queue) h
   left-counts Decision.DenyPermission h l = rw (l .entries, l .unexpected, l .queue) h
@@ -60,7 +49,7 @@ module _ (t t′ : Target) where
       fits-counts t′ (record { entries = l .entries .fits; unexpected = l .unexpected .fits; queue = l .queue .fits })
 
   -- after a refusal it is the very same
-  refused-same : (r : Refusal) → Left t (Decision.Refuse r) t′ → t′ ≡ t
+  refused-same : (r : Refusal) → TargetAfter t (Decision.Refuse r) t′ → t′ ≡ t
   refused-same r l =
       let same : _≡_ {A = Target}
       (record {
@@ -76,7 +65,7 @@ module _ (t t′ : Target) where
       same
 
   -- and so it is wherever the answer is a refusal
-  refusal-same : (kind : Kind) (ack : ℕ) (d : Decision) → Left t d t′ → isRefused (answerBy kind ack d) ≡ true → t′ ≡ t
+  refusal-same : (kind : Kind) (ack : ℕ) (d : Decision) → TargetAfter t d t′ → isRefused (answerBy kind ack d) ≡ true → t′ ≡ t
   refusal-same kind ack (Decision.Refuse r) l e = refused-same r l
   refusal-same kind ack Decision.Drop l e = absurd (false≢true e)
   refusal-same kind ack Decision.DenyPermission l e = absurd (false≢true e)
@@ -90,12 +79,12 @@ module _ (call : View → Outcome View (List ℕ)) (size : ℕ) (q : Request) (k
     (t t′ : Target) (answer : Answer) (left : List ℕ) where
   met-if : (isSoundHere : Bool) → isSound t ≡ isSoundHere → (d : Decision)
       → d ≡ cond isSoundHere (decided (viewOf t) size q kind requested) (Decision.Refuse Refusal.BadState)
-      → Left t d t′
+      → TargetAfter t d t′
       → answer ≡ answerBy kind (q .ack) d
       → left ≡ ifDelivered moved lent d
       → Met call t lent answer t′ left
   met-if false h d e l answers moves =
-      let same = refused-same t t′ Refusal.BadState (subst (λ (b : Decision). Left t b t′) e l) in
+      let same = refused-same t t′ Refusal.BadState (subst (λ (b : Decision). TargetAfter t b t′) e l) in
       record {
         outcome = rw (answers, moves, e, same, seen-unsound t h);
         unchanged = λ f. same;
@@ -115,29 +104,31 @@ module _ (call : View → Outcome View (List ℕ)) (size : ℕ) (q : Request) (k
   -- a request that is decided as the rules say, and ends as its decision says, keeps its promise
   request-met : (d : Decision)
       → d ≡ cond (isSound t) (decided (viewOf t) size q kind requested) (Decision.Refuse Refusal.BadState)
-      → Left t d t′
+      → TargetAfter t d t′
       → answer ≡ answerBy kind (q .ack) d
       → left ≡ ifDelivered moved lent d
       → Met call t lent answer t′ left
   request-met d e l answers moves = met-if (isSound t) refl d e l answers moves
 
-module _ (t : Target) (memory : List ℕ) (q : Request) (t′ : Target) (answer : Answer) (d : Decision) (left : Left t d t′) where
+module _ (t : Target) (memory : List ℕ) (q : Request) (r : RequestDone) (d : Decision) where
   pub put-met : (payload memory′ : List ℕ)
       → DecidedAs t (length memory) q Kind.Put (length payload) d
-      → answer ≡ answerBy Kind.Put (q .ack) d
+      → EndedBy t d Kind.Put (q .ack) r
       → memory′ ≡ ifDelivered (bytesPut memory payload) memory d
-      → Met (λ v. put v memory q payload) t memory answer t′ memory′
+      → PutMet t memory q payload r memory′
   unfolding put
-  put-met payload memory′ decides answers moves =
+  put-met payload memory′ decides ended moves =
       request-met (λ v. put v memory q payload) (length memory) q Kind.Put (length payload) (bytesPut memory payload) memory
-      (λ v. refl) (λ v. put-sound v memory q payload) t t′ answer memory′ d (decides .is) left answers moves
+      (λ v. refl) (λ v. put-sound v memory q payload) t (r .target) (requestAnswer (r .answer)) memory′ d
+      (decides .is) (ended .target) (ended .answer) moves
 
   pub get-met : (reply reply′ : List ℕ)
       → DecidedAs t (length memory) q Kind.Get (length reply) d
-      → answer ≡ answerBy Kind.Get (q .ack) d
+      → EndedBy t d Kind.Get (q .ack) r
       → reply′ ≡ ifDelivered (bytesGot memory reply) reply d
-      → Met (λ v. get v memory q reply) t reply answer t′ reply′
+      → GetMet t memory q reply r reply′
   unfolding get
-  get-met reply reply′ decides answers moves =
+  get-met reply reply′ decides ended moves =
       request-met (λ v. get v memory q reply) (length memory) q Kind.Get (length reply) (bytesGot memory reply) reply
-      (λ v. refl) (λ v. get-sound v memory q reply) t t′ answer reply′ d (decides .is) left answers moves
+      (λ v. refl) (λ v. get-sound v memory q reply) t (r .target) (requestAnswer (r .answer)) reply′ d
+      (decides .is) (ended .target) (ended .answer) moves

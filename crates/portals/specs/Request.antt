@@ -16,13 +16,14 @@ use Rattle.state.specs.Soundness.{isSound}
 use Rattle.state.specs.declared.layout.Target.{Target}
 use Rattle.requests.specs.Plan.{bytesPut, bytesGot}
 use Rattle.requests.specs.Decision.{decide, ifDelivered, requestState}
-use Rattle.requests.specs.Parts.{OfDelivery, Deliverable}
+use Rattle.requests.specs.Parts.{OfDelivery, Deliverable, TargetAfter}
 use Rattle.requests.specs.declared.plan.Plan.{Plan}
 use Rattle.requests.specs.declared.decision.Decision.{Decision}
 use Rattle.requests.specs.declared.decision.Decision.the-variants as Decision
 use Rattle.portals.specs.Refusals.{Condition, goodArguments, unlessRefused}
-use Rattle.portals.specs.Answers.{Answer, PRIORITY, OVERFLOW, DROPPED, PERM, OP, refused}
+use Rattle.portals.specs.Answers.{Answer, PRIORITY, OVERFLOW, DROPPED, PERM, OP, refused, requestAnswer}
 use Rattle.portals.specs.Outcome.{Outcome}
+use Rattle.portals.specs.declared.answers.RequestDone.{RequestDone}
 
 -- ## The answer
 
@@ -74,9 +75,14 @@ unfoldable pub get : View → List ℕ → Request → List ℕ → Outcome View
 get v memory q reply =
     carriedOut v q Kind.Get (bytesGot memory reply) reply (decided v (length memory) q Kind.Get (length reply))
 
--- ## The decision as the calls make it
+-- ## What the calls are made of
 
 -- on any state, BAD_STATE before the tests; a delivery is decided only where it can be carried out, on a memory of the state's size
 pub record DecidedAs (t : Target) (size : ℕ) (q : Request) (kind : Kind) (requested : ℕ) (d : Decision) : Type 0 where
   pub is : d ≡ cond (isSound t) (decided (viewOf t) size q kind requested) (Decision.Refuse Refusal.BadState)
   pub deliverable : OfDelivery (λ p. Deliverable t requested p × (size ≡ t .size)) d
+
+-- a request ends by its decision: what it answers, and the state that it leaves
+pub record EndedBy (t : Target) (d : Decision) (kind : Kind) (ack : ℕ) (r : RequestDone) : Type 0 where
+  pub answer : requestAnswer (r .answer) ≡ answerBy kind ack d
+  pub target : TargetAfter t d (r .target)

@@ -14,8 +14,9 @@ use requests::plan::Plan;
 use state::layout::Target;
 use state::soundness;
 ghost use mathlib.Core.Path.{_≡_};
+ghost use Rattle.requests.specs.Parts.{PartsFit, OfDelivery};
 ghost use Rattle.portals.specs.Answers.{requestAnswer};
-ghost use Rattle.portals.specs.Request.{deliveryAnswer, answerBy, DecidedAs};
+ghost use Rattle.portals.specs.Request.{deliveryAnswer, answerBy, DecidedAs, EndedBy};
 ghost use Rattle.portals.specs.Promises.{PutMet, GetMet};
 
 // What becomes of a request for so many bytes, with a memory of this size lent: its tests in order, then the rules.
@@ -73,22 +74,37 @@ fn answer_by(d: Decision, kind: Kind, ack: u16) -> RequestAnswer
     }
 }
 
+// A request ends: every part of the state, and the answer, by its decision.
+fn request_done(t: Target, d: Decision, kind: Kind, ack: u16) -> RequestDone
+    requires { ⌜ OfDelivery (PartsFit t) d ⌝ }
+    ensures { λ r. ⌜ EndedBy t d kind ack r ⌝ }
+{
+    let entries = parts::entries_after(t.entries, d);
+    let unexpected = parts::unexpected_after(t.unexpected, d);
+    let queue = parts::queue_after(t.queue, d);
+    let counters = parts::counters_after(t.counters, d);
+    let registers = parts::registers_after(t.registers, d);
+    RequestDone {
+        answer: answer_by(d, kind, ack),
+        target: Target {
+            size: t.size,
+            last: t.last,
+            entries,
+            unexpected,
+            queue,
+            counters,
+            registers,
+        },
+    }
+}
+
 // A put: where it is delivered, the first bytes of the payload go to the memory.
 pub fn put(t: Target, memory: &mut [u8], q: Request, payload: &[u8]) -> RequestDone
     ensures { λ r. ⌜ PutMet t (now (memory .entry)) q (now (payload .entry)) r (now (memory .exit)) ⌝ }
 {
     let d = decided(t, memory.len(), q, Kind::Put, payload.len());
     bytes::bytes_put(memory, d, payload);
-    let mut next = t;
-    next.entries = parts::entries_after(t.entries, d);
-    next.unexpected = parts::unexpected_after(t.unexpected, d);
-    next.queue = parts::queue_after(t.queue, d);
-    next.counters = parts::counters_after(t.counters, d);
-    next.registers = parts::registers_after(t.registers, d);
-    RequestDone {
-        answer: answer_by(d, Kind::Put, q.ack),
-        target: next,
-    }
+    request_done(t, d, Kind::Put, q.ack)
 }
 
 // A get: where it is delivered, bytes of the memory fill the first of the reply.
@@ -97,14 +113,5 @@ pub fn get(t: Target, memory: &[u8], q: Request, reply: &mut [u8]) -> RequestDon
 {
     let d = decided(t, memory.len(), q, Kind::Get, reply.len());
     bytes::bytes_got(reply, d, memory);
-    let mut next = t;
-    next.entries = parts::entries_after(t.entries, d);
-    next.unexpected = parts::unexpected_after(t.unexpected, d);
-    next.queue = parts::queue_after(t.queue, d);
-    next.counters = parts::counters_after(t.counters, d);
-    next.registers = parts::registers_after(t.registers, d);
-    RequestDone {
-        answer: answer_by(d, Kind::Get, q.ack),
-        target: next,
-    }
+    request_done(t, d, Kind::Get, q.ack)
 }

@@ -79,8 +79,7 @@ pub fn decide(t: Target, portal: u16, a: Arrival) -> Decision
 {
     // Both lists are asked alike; the answer tells them apart by the entry's own list.
     match choice::choose(t.entries, portal, a) {
-        Choice::Priority(k) => decide_at(t, k, portal, a),
-        Choice::Overflow(k) => decide_at(t, k, portal, a),
+        Choice::Priority(k) | Choice::Overflow(k) => decide_at(t, k, portal, a),
         Choice::Nothing => Decision::Drop,
     }
 }

@@ -20,27 +20,25 @@ pub fn entry_at(es: Entries, at: usize) -> HeldEntry
 }
 
 // One more entry, linked last.
-pub fn entry_added(es: Entries, x: HeldEntry) -> Entries
+pub fn entry_added(mut es: Entries, x: HeldEntry) -> Entries
     requires { ⌜ EntriesFit es ⌝ }
     requires { ⌜ es .count < SLOTS ⌝ }
     ensures { λ r. ⌜ EntriesHold r (entriesOf es ++ (x ∷ [])) ⌝ }
 {
     let n = es.count;
-    let mut next = es;
-    next.slots[n] = x;
-    next.count = n + 1;
-    next
+    es.slots[n] = x;
+    es.count = n + 1;
+    es
 }
 
 // Another entry in the place of one.
-pub fn entry_replaced(es: Entries, at: usize, x: HeldEntry) -> Entries
+pub fn entry_replaced(mut es: Entries, at: usize, x: HeldEntry) -> Entries
     requires { ⌜ EntriesFit es ⌝ }
     requires { ⌜ at < es .count ⌝ }
     ensures { λ r. ⌜ EntriesHold r (set (entriesOf es) at x) ⌝ }
 {
-    let mut next = es;
-    next.slots[at] = x;
-    next
+    es.slots[at] = x;
+    es
 }
 
 // The entry at a place goes, and those after it move up.

@@ -79,7 +79,7 @@ fn lost_after(joins: bool, loses: bool, lost: u64) -> u64
 }
 
 // An event is posted: unless the options disable it, it joins the queue's end, or is lost where the queue is full.
-pub fn posted(q: Queue, e: Event, options: u32) -> Queue
+pub fn posted(mut q: Queue, e: Event, options: u32) -> Queue
     requires { ⌜ QueueFits q ⌝ }
     ensures { λ r. ⌜ QueueHolds r (post (queueOf q) (record { event = e; options = options })) ⌝ }
 {
@@ -90,12 +90,11 @@ pub fn posted(q: Queue, e: Event, options: u32) -> Queue
     let gap = gap_of(q.lost);
     let at = (q.head % sizes::EVENTS + n) % sizes::EVENTS;
     let old = q.slots[at];
-    let mut next = q;
     let slot = event_stored(joins, e, gap, old);
-    next.slots[at] = slot;
-    next.count = count_after(joins, n);
-    next.lost = lost_after(joins, loses, q.lost);
-    next
+    q.slots[at] = slot;
+    q.count = count_after(joins, n);
+    q.lost = lost_after(joins, loses, q.lost);
+    q
 }
 
 // The oldest event: the queue's events are it, followed by those that are left when it is taken.

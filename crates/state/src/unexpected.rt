@@ -9,16 +9,15 @@ ghost use Rattle.state.specs.View.{headersOf};
 ghost use Rattle.state.specs.Parts.{UnexpectedFit, UnexpectedHold};
 
 // One more header, the last to arrive.
-pub fn header_added(us: Unexpected, h: Header) -> Unexpected
+pub fn header_added(mut us: Unexpected, h: Header) -> Unexpected
     requires { ⌜ UnexpectedFit us ⌝ }
     requires { ⌜ us .count < HEADERS ⌝ }
     ensures { λ r. ⌜ UnexpectedHold r (headersOf us ++ (h ∷ [])) ⌝ }
 {
     let n = us.count;
-    let mut next = us;
-    next.slots[n] = h;
-    next.count = n + 1;
-    next
+    us.slots[n] = h;
+    us.count = n + 1;
+    us
 }
 
 // The header at a place goes, and those after it move up.
