@@ -127,13 +127,12 @@ fn count_less(takes: bool, n: usize) -> usize
 }
 
 // The queue without its oldest event, where that is taken.
-pub fn popped(q: Queue, takes: bool) -> Queue
+pub fn popped(mut q: Queue, takes: bool) -> Queue
     requires { ⌜ ((takes ≡ true) → QueueFits q) ⌝ }
     requires { ⌜ ((takes ≡ true) → (0 < q .count)) ⌝ }
     ensures { λ r. ⌜ Popped q takes r ⌝ }
 {
-    let mut next = q;
-    next.head = head_after(takes, q.head);
-    next.count = count_less(takes, q.count);
-    next
+    q.head = head_after(takes, q.head);
+    q.count = count_less(takes, q.count);
+    q
 }

@@ -21,19 +21,18 @@ pub fn header_added(mut us: Unexpected, h: Header) -> Unexpected
 }
 
 // The header at a place goes, and those after it move up.
-pub fn header_removed(us: Unexpected, at: usize) -> Unexpected
+pub fn header_removed(mut us: Unexpected, at: usize) -> Unexpected
     requires { ⌜ UnexpectedFit us ⌝ }
     requires { ⌜ at < us .count ⌝ }
     ensures { λ r. ⌜ UnexpectedHold r (removeAt at (headersOf us)) ⌝ }
 {
     let n = us.count;
-    let mut next = us;
     let mut i = at;
     while i + 1 < n {
-        let h = next.slots[i + 1];
-        next.slots[i] = h;
+        let h = us.slots[i + 1];
+        us.slots[i] = h;
         i += 1;
     }
-    next.count = n - 1;
-    next
+    us.count = n - 1;
+    us
 }

@@ -7,10 +7,10 @@ use Rattle.state.proofs.unexpected.header_removed.Statement.{statement}
 use Rattle.state.proofs.unexpected.header_removed.Tie as tie
 
 abbrev Inv-loop : tie.InvT-loop
-Inv-loop at n next₀ i₀ next i = Closing HEADERS at n (next₀ .slots) (next .slots) i
+Inv-loop at us₀ n i₀ us i = Closing HEADERS at n (us₀ .slots) (us .slots) i
 
 abbrev μ-loop : tie.MeasureT-loop
-μ-loop at n next₀ i₀ next i = n - i
+μ-loop at us₀ n i₀ us i = n - i
 
 loop-holds : tie.Need-loop-holds Inv-loop μ-loop
 loop-holds c = closing (search needs) (search needs)
@@ -42,8 +42,8 @@ loop-less c = search needs
 loop-again : tie.Need-loop-again Inv-loop μ-loop
 loop-again c = closing-more _ (c .before .before .loop .inv) (search needs)
 
-sub-next : tie.Need-sub-next Inv-loop μ-loop
-sub-next c = search needs
+sub-us : tie.Need-sub-us Inv-loop μ-loop
+sub-us c = search needs
 
 returns : tie.Need-returns Inv-loop μ-loop
 returns c = closed (c .before .loop .inv) (search needs)
@@ -64,5 +64,5 @@ header-removed-spec =
     add-i
     loop-less
     loop-again
-    sub-next
+    sub-us
     returns)
