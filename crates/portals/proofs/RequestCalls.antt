@@ -23,7 +23,7 @@ use Rattle.state.specs.declared.layout.Target.{Target}
 use Rattle.state.proofs.ListLaws.{cond-cases}
 use Rattle.state.proofs.SoundLaws.{Sound, good-both}
 use Rattle.requests.specs.Decision.{decide, requestState}
-use Rattle.requests.specs.Parts.{BytesFit, OfDelivery, PartsFit, Deliverable, Decides}
+use Rattle.requests.specs.Parts.{BytesFit, OfDelivery, PartsAllow, Deliverable, Decides}
 use Rattle.requests.specs.declared.plan.Plan.{Plan}
 use Rattle.requests.specs.declared.decision.Decision.{Decision}
 use Rattle.requests.specs.declared.decision.Decision.the-variants as Decision
@@ -106,15 +106,15 @@ module _ (t : Target) (size : ℕ) (q : Request) (kind : Kind) (requested : ℕ)
   pub bytes-asked : OfDelivery (λ p. BytesFit size requested (p .message)) d
   bytes-asked = for-delivery _ (λ p h. rw (h .1) (h .0 .bytes))
 
-  pub parts-asked : OfDelivery (PartsFit t) d
+  pub parts-asked : OfDelivery (PartsAllow t) d
   parts-asked = for-delivery _ (λ p h. h .0 .parts)
 
-module _ (t : Target) (d : Decision) (fit : OfDelivery (PartsFit t) d) where
+module _ (t : Target) (d : Decision) (fit : OfDelivery (PartsAllow t) d) where
   pub entries-asked : OfDelivery (λ p. EntriesFit (t .entries) × (p .index < t .entries .count)) d
-  entries-asked = claim-follows (PartsFit t) _ (λ p h. (h .fits .entries, h .inside)) d fit
+  entries-asked = claim-follows (PartsAllow t) _ (λ p h. (h .fits .entries, h .inside)) d fit
 
   pub unexpected-asked : OfDelivery (λ p. UnexpectedFit (t .unexpected) × (p .waits ≡ true → t .unexpected .count < HEADERS)) d
-  unexpected-asked = claim-follows (PartsFit t) _ (λ p h. (h .fits .unexpected, h .room)) d fit
+  unexpected-asked = claim-follows (PartsAllow t) _ (λ p h. (h .fits .unexpected, h .room)) d fit
 
   pub queue-asked : OfDelivery (λ p. QueueFits (t .queue)) d
-  queue-asked = claim-follows (PartsFit t) _ (λ p h. h .fits .queue) d fit
+  queue-asked = claim-follows (PartsAllow t) _ (λ p h. h .fits .queue) d fit

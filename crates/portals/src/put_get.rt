@@ -14,13 +14,13 @@ use requests::plan::Plan;
 use state::layout::Target;
 use state::soundness;
 ghost use mathlib.Core.Path.{_≡_};
-ghost use Rattle.requests.specs.Parts.{PartsFit, OfDelivery};
+ghost use Rattle.requests.specs.Parts.{PartsAllow, OfDelivery};
 ghost use Rattle.portals.specs.Answers.{requestAnswer};
 ghost use Rattle.portals.specs.Request.{deliveryAnswer, answerBy, DecidedAs, EndedBy};
 ghost use Rattle.portals.specs.Promises.{PutMet, GetMet};
 
 // What becomes of a request for so many bytes, with a memory of this size lent: its tests in order, then the rules.
-fn decided(t: Target, size: usize, q: Request, kind: Kind, requested: usize) -> Decision
+fn request_decided(t: Target, size: usize, q: Request, kind: Kind, requested: usize) -> Decision
     ensures { λ r. ⌜ DecidedAs t size q kind requested r ⌝ }
 {
     if !soundness::sound(t) {
@@ -38,24 +38,24 @@ fn decided(t: Target, size: usize, q: Request, kind: Kind, requested: usize) -> 
 }
 
 // PRIORITY or OVERFLOW, by the list of the chosen entry.
-fn answer_delivery(p: Plan, kind: Kind, asked: u16) -> RequestAnswer
-    ensures { λ r. ⌜ requestAnswer r ≡ deliveryAnswer kind asked p ⌝ }
+fn answer_delivery(p: Plan, kind: Kind, ack: u16) -> RequestAnswer
+    ensures { λ r. ⌜ requestAnswer r ≡ deliveryAnswer kind ack p ⌝ }
 {
     let e = p.entry.entry;
     let length = p.message.accepted;
     let offset = p.offset;
-    let ack = request::ack_given(e.options, kind, asked);
+    let given = request::ack_given(e.options, kind, ack);
     if e.list == 0 {
         RequestAnswer::Priority {
             length,
             offset,
-            ack,
+            ack: given,
         }
     } else {
         RequestAnswer::Overflow {
             length,
             offset,
-            ack,
+            ack: given,
         }
     }
 }
@@ -76,7 +76,7 @@ fn answer_by(d: Decision, kind: Kind, ack: u16) -> RequestAnswer
 
 // A request ends: every part of the state, and the answer, by its decision.
 fn request_done(t: Target, d: Decision, kind: Kind, ack: u16) -> RequestDone
-    requires { ⌜ OfDelivery (PartsFit t) d ⌝ }
+    requires { ⌜ OfDelivery (PartsAllow t) d ⌝ }
     ensures { λ r. ⌜ EndedBy t d kind ack r ⌝ }
 {
     let entries = parts::entries_after(t.entries, d);
@@ -102,7 +102,7 @@ fn request_done(t: Target, d: Decision, kind: Kind, ack: u16) -> RequestDone
 pub fn put(t: Target, memory: &mut [u8], q: Request, payload: &[u8]) -> RequestDone
     ensures { λ r. ⌜ PutMet t (now (memory .entry)) q (now (payload .entry)) r (now (memory .exit)) ⌝ }
 {
-    let d = decided(t, memory.len(), q, Kind::Put, payload.len());
+    let d = request_decided(t, memory.len(), q, Kind::Put, payload.len());
     bytes::bytes_put(memory, d, payload);
     request_done(t, d, Kind::Put, q.ack)
 }
@@ -111,7 +111,7 @@ pub fn put(t: Target, memory: &mut [u8], q: Request, payload: &[u8]) -> RequestD
 pub fn get(t: Target, memory: &[u8], q: Request, reply: &mut [u8]) -> RequestDone
     ensures { λ r. ⌜ GetMet t (now (memory .entry)) q (now (reply .entry)) r (now (reply .exit)) ⌝ }
 {
-    let d = decided(t, memory.len(), q, Kind::Get, reply.len());
+    let d = request_decided(t, memory.len(), q, Kind::Get, reply.len());
     bytes::bytes_got(reply, d, memory);
     request_done(t, d, Kind::Get, q.ack)
 }

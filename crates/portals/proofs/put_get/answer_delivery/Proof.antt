@@ -27,13 +27,13 @@ returns : tie.Need-returns
 returns c =
     let g = c .before .before in
     let a = g .before .before .args in
-    in-priority (a .p) (a .kind) (a .asked) (g .ack-given .result) (g .ack-given .ensures) (eq-eqb _ _ (c .if1 .taken))
+    in-priority (a .p) (a .kind) (a .ack) (g .ack-given .result) (g .ack-given .ensures) (eq-eqb _ _ (c .if1 .taken))
 
 returns-2 : tie.Need-returns-2
 returns-2 c =
     let g = c .before .before in
     let a = g .before .before .args in
-    in-overflow (a .p) (a .kind) (a .asked) (g .ack-given .result) (g .ack-given .ensures) (ne-eqb _ _ (c .if1 .left))
+    in-overflow (a .p) (a .kind) (a .ack) (g .ack-given .result) (g .ack-given .ensures) (ne-eqb _ _ (c .if1 .left))
 
 pub answer-delivery-spec : {M : Type 1} → statement M
 answer-delivery-spec = tie.close (tie.spec ack-given-requires returns returns-2)

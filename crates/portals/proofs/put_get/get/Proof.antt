@@ -7,20 +7,20 @@ use Rattle.portals.proofs.RequestMet.{get-met}
 use Rattle.portals.proofs.put_get.get.Statement.{statement}
 use Rattle.portals.proofs.put_get.get.Tie as tie
 
-decided-requires : tie.Need-decided-requires
-decided-requires c κs = search needs
+request-decided-requires : tie.Need-request-decided-requires
+request-decided-requires c κs = search needs
 
 bytes-got-requires : tie.Need-bytes-got-requires
 bytes-got-requires c κs =
     let d = c .before in
     let a = d .before .before .before .args in
-    bytes-asked (a .t) (length (a .memory .now)) (a .q) Kind.Get (length (a .reply .now)) (d .decided .result) (d .decided .ensures)
+    bytes-asked (a .t) (length (a .memory .now)) (a .q) Kind.Get (length (a .reply .now)) (d .request-decided .result) (d .request-decided .ensures)
 
 request-done-requires : tie.Need-request-done-requires
 request-done-requires c κs =
     let d = c .before .before .before .before in
     let a = d .before .before .before .args in
-    parts-asked (a .t) (length (a .memory .now)) (a .q) Kind.Get (length (a .reply .now)) (d .decided .result) (d .decided .ensures)
+    parts-asked (a .t) (length (a .memory .now)) (a .q) Kind.Get (length (a .reply .now)) (d .request-decided .result) (d .request-decided .ensures)
 
 same-length : tie.Need-same-length
 same-length c = search needs
@@ -30,8 +30,8 @@ returns c =
     let b = c .before .before .before in
     let d = b .before .before in
     let a = d .before .before .before .args in
-    get-met (a .t) (a .memory .now) (a .q) (c .request-done .result) (d .decided .result) (a .reply .now) _
-    (d .decided .ensures) (c .request-done .ensures) (b .bytes-got .ensures)
+    get-met (a .t) (a .memory .now) (a .q) (c .request-done .result) (d .request-decided .result) (a .reply .now) _
+    (d .request-decided .ensures) (c .request-done .ensures) (b .bytes-got .ensures)
 
 pub get-spec : {M : Type 1} → statement M
-get-spec = tie.close (tie.spec decided-requires bytes-got-requires request-done-requires same-length returns)
+get-spec = tie.close (tie.spec request-decided-requires bytes-got-requires request-done-requires same-length returns)

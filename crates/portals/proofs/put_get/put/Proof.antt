@@ -7,20 +7,20 @@ use Rattle.portals.proofs.RequestMet.{put-met}
 use Rattle.portals.proofs.put_get.put.Statement.{statement}
 use Rattle.portals.proofs.put_get.put.Tie as tie
 
-decided-requires : tie.Need-decided-requires
-decided-requires c κs = search needs
+request-decided-requires : tie.Need-request-decided-requires
+request-decided-requires c κs = search needs
 
 bytes-put-requires : tie.Need-bytes-put-requires
 bytes-put-requires c κs =
     let d = c .before in
     let a = d .before .before .before .args in
-    bytes-asked (a .t) (length (a .memory .now)) (a .q) Kind.Put (length (a .payload .now)) (d .decided .result) (d .decided .ensures)
+    bytes-asked (a .t) (length (a .memory .now)) (a .q) Kind.Put (length (a .payload .now)) (d .request-decided .result) (d .request-decided .ensures)
 
 request-done-requires : tie.Need-request-done-requires
 request-done-requires c κs =
     let d = c .before .before .before .before in
     let a = d .before .before .before .args in
-    parts-asked (a .t) (length (a .memory .now)) (a .q) Kind.Put (length (a .payload .now)) (d .decided .result) (d .decided .ensures)
+    parts-asked (a .t) (length (a .memory .now)) (a .q) Kind.Put (length (a .payload .now)) (d .request-decided .result) (d .request-decided .ensures)
 
 same-length : tie.Need-same-length
 same-length c = search needs
@@ -30,8 +30,8 @@ returns c =
     let b = c .before .before .before in
     let d = b .before .before in
     let a = d .before .before .before .args in
-    put-met (a .t) (a .memory .now) (a .q) (c .request-done .result) (d .decided .result) (a .payload .now) _
-    (d .decided .ensures) (c .request-done .ensures) (b .bytes-put .ensures)
+    put-met (a .t) (a .memory .now) (a .q) (c .request-done .result) (d .request-decided .result) (a .payload .now) _
+    (d .request-decided .ensures) (c .request-done .ensures) (b .bytes-put .ensures)
 
 pub put-spec : {M : Type 1} → statement M
-put-spec = tie.close (tie.spec decided-requires bytes-put-requires request-done-requires same-length returns)
+put-spec = tie.close (tie.spec request-decided-requires bytes-put-requires request-done-requires same-length returns)

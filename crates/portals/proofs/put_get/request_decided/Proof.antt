@@ -5,8 +5,8 @@ use borrow.Author.Needs.{needs}
 use borrow.Author.Tests.{not-true, not-false}
 use Rattle.matching.specs.Refusals.{noneBad}
 use Rattle.portals.proofs.RequestCalls.{requested-fits, unsound-decided, memory-decided, argument-decided, rules-decided}
-use Rattle.portals.proofs.put_get.decided.Statement.{statement}
-use Rattle.portals.proofs.put_get.decided.Tie as tie
+use Rattle.portals.proofs.put_get.request_decided.Statement.{statement}
+use Rattle.portals.proofs.put_get.request_decided.Tie as tie
 
 sound-requires : tie.Need-sound-requires
 sound-requires c κs = search needs
@@ -86,8 +86,8 @@ returns-4 c =
     (ap noneBad (sym (b .bad-request-argument .ensures)) ∙ sym (n .none-bad .ensures) ∙ not-false (n .none-bad .result) (l .if3 .left))
     (rw (r .arrival-of .ensures) at (c .decide .ensures))
 
-pub decided-spec : {M : Type 1} → statement M
-decided-spec =
+pub request-decided-spec : {M : Type 1} → statement M
+request-decided-spec =
     tie.close
     (tie.spec
     sound-requires
