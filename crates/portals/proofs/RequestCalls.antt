@@ -42,7 +42,7 @@ requested-fits q n e =
     leb-true n 65536 (good-both (leb n 65536) _ BadArgument.Size refl (ack .1) .0)
 
 -- whatever is decided of a request, refusal or not, leaves a sound state sound
-pub decided-sound : (v : View) (size : ℕ) (q : Request) (kind : Kind) (n : ℕ) → Sound v → Sound (requestState v (decided v size q kind n))
+decided-sound : (v : View) (size : ℕ) (q : Request) (kind : Kind) (n : ℕ) → Sound v → Sound (requestState v (decided v size q kind n))
 unfolding decided
 decided-sound v size q kind n s =
     let a = arrivalOf q kind n in
