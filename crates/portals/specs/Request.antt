@@ -75,7 +75,7 @@ unfoldable pub get : View → List ℕ → Request → List ℕ → Outcome View
 get v memory q reply =
     carriedOut v q Kind.Get (bytesGot memory reply) reply (decided v (length memory) q Kind.Get (length reply))
 
--- ## What the calls are made of
+-- ## What the calls are made of. No promise of a call cites these.
 
 -- on any state, BAD_STATE before the tests; a delivery is decided only where it can be carried out, on a memory of the state's size
 pub record DecidedAs (t : Target) (size : ℕ) (q : Request) (kind : Kind) (requested : ℕ) (d : Decision) : Type 0 where
