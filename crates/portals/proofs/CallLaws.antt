@@ -30,6 +30,9 @@ use Rattle.requests.specs.declared.plan.Plan.{Plan}
 use Rattle.requests.specs.declared.decision.Decision.{Decision}
 use Rattle.requests.specs.declared.decision.Decision.the-variants as Decision
 use Rattle.requests.proofs.RequestKept.{none-beyond}
+use Rattle.early.specs.Walk.{Walk, foundOnce}
+use Rattle.early.specs.Handling.{lastAfter, handled}
+use Rattle.early.specs.declared.handling.Handling.the-variants as Handling
 use Rattle.portals.specs.Refusals.{Condition, goodArguments}
 use Rattle.portals.specs.Answers.{Answer, MADE, isRefused}
 use Rattle.portals.specs.Outcome.{Outcome, refusal, guarded}
@@ -37,7 +40,7 @@ use Rattle.portals.specs.Making.{notMade, badSetting, new}
 use Rattle.portals.specs.EventRead.{oldestOf, readEvent}
 use Rattle.portals.specs.CounterCalls.{counterTests, setCounter, increment, counterDone}
 use Rattle.portals.specs.Request.{carriedOut, decided, put, get}
-use Rattle.portals.specs.EarlyMessages.{Walk, appendBy, foundOnce, takenBy, appendTests, append, unlinkTests, unlink, lookedAt, deleted, walkFor, searched, searchTests, search}
+use Rattle.portals.specs.EarlyMessages.{appendBy, takenBy, appendTests, append, unlinkTests, unlink, searchTests, search}
 use Rattle.portals.specs.Calls.{Call, CallLaws, isAppend, Handles, linked, taken, refused, stateAfter, answerTo}
 use Rattle.portals.specs.Calls as calls
 use Rattle.portals.proofs.GuardLaws.{guard-cases}
@@ -127,6 +130,7 @@ module _ (v : View) where
   append-by-answers false e w = refl
 
   append-by-size : (isTaken : Bool) (e : Entry) (w : Walk Header) → appendBy isTaken v e w .state .size ≡ v .size
+  unfolding handled
   append-by-size true e w = refl
   append-by-size false e w = refl
 
@@ -141,11 +145,8 @@ module _ (v : View) where
   unlink-orderly handle = guarded-orderly v tt (unlinkTests v handle) _ refl refl
 
   search-orderly : (e : Entry) → Orderly v tt (search v e)
-  unfolding search
-  search-orderly e =
-      let w = walkFor e (v .headers) in
-      guarded-orderly v tt (searchTests v e) (searched v e w) refl
-      (cond-cases (λ (s : View). s .size ≡ v .size) (eqb (e .list) 0) (lookedAt v e w) (deleted v e w) (λ look. refl) (λ delete. refl))
+  unfolding search handled
+  search-orderly e = guarded-orderly v tt (searchTests v e) _ refl refl
 
   -- a request that is refused leaves all as it was; every other decision gives an answer that is no refusal
   carried-orderly : (q : Request) (kind : Kind) (moved : Plan → List ℕ) (lent : List ℕ) (d : Decision)
@@ -211,6 +212,7 @@ call-lawful v memory (calls.poll ks tests) = reading v _
 handles-by : (isTaken : Bool) (v : View) (e : Entry) (w : Walk Header)
     → v .last < LAST-HANDLE
     → Handles (v .last) (appendBy isTaken v e w .answer) (appendBy isTaken v e w .state .last)
+unfolding handled
 handles-by true v e w left = taken
 handles-by false v e w left = linked left
 
@@ -239,13 +241,12 @@ request-last v Decision.DenyOperation = refl
 request-last v (Decision.Deliver p) = refl
 
 last-kept : (v : View) (memory : List ℕ) (c : Call) → isAppend c ≡ false → stateAfter v memory c .last ≡ v .last
-unfolding unlink search put get readEvent setCounter increment
+unfolding unlink search handled put get readEvent setCounter increment
 last-kept v memory (calls.append e) h = absurd (true≢false h)
 last-kept v memory (calls.unlink handle) h = same-last v tt (unlinkTests v handle) _ refl
 last-kept v memory (calls.search e) h =
-    let w = walkFor e (v .headers) in
-    same-last v tt (searchTests v e) (searched v e w)
-    (cond-cases (λ (s : View). s .last ≡ v .last) (eqb (e .list) 0) (lookedAt v e w) (deleted v e w) (λ look. refl) (λ delete. refl))
+    same-last v tt (searchTests v e) _
+    (cond-cases (λ handling. lastAfter (v .last) handling ≡ v .last) (eqb (e .list) 0) Handling.Look Handling.Delete (λ look. refl) (λ delete. refl))
 last-kept v memory (calls.put q payload) h = request-last v (decided v (length memory) q Kind.Put (length payload))
 last-kept v memory (calls.get q reply) h = request-last v (decided v (length memory) q Kind.Get (length reply))
 last-kept v memory calls.readEvent h = refl

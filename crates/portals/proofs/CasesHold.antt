@@ -18,10 +18,11 @@ use Rattle.state.specs.Counters.{counted}
 use Rattle.requests.specs.Choice.{choose}
 use Rattle.requests.specs.Plan.{message}
 use Rattle.requests.specs.Decision.{decide}
+use Rattle.early.specs.Walk.{walkFor}
 use Rattle.portals.specs.EventRead.{readEvent}
 use Rattle.portals.specs.CounterCalls.{setCounter, increment, readCounter}
 use Rattle.portals.specs.Request.{decided, put}
-use Rattle.portals.specs.EarlyMessages.{walkFor, takenBy, append}
+use Rattle.portals.specs.EarlyMessages.{append}
 use Rattle.portals.specs.BenchCases.{AllHold, done, _then_, table}
 
 and-false : (x : Bool) → (x && false) ≡ false
@@ -34,7 +35,7 @@ never-unlinks e local a free once =
     rw (once, le-ltb (e .length - localAfter e local a) (e .minfree) (omega arith)) (and-false (isSet (e .options) MANAGE-LOCAL))
 
 pub cases-hold : AllHold table
-unfolding badEntryArgument badRequestArgument offsetUsed available bitsAgree allowsLength matches verdictOn accepted place localAfter unlinks ackGiven takesHeaders fits disabled amount soundView post readEvent counted setCounter increment readCounter choose decide message decided put walkFor takenBy append
+unfolding badEntryArgument badRequestArgument offsetUsed available bitsAgree allowsLength matches verdictOn accepted place localAfter unlinks ackGiven takesHeaders fits disabled amount soundView post readEvent counted setCounter increment readCounter choose decide message decided put walkFor append
 cases-hold =
     refl
     then refl

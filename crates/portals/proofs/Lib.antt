@@ -5,5 +5,6 @@ pub mod CallLaws
 pub mod AdmitLaws
 pub mod MetLaws
 pub mod PartCalls
+pub mod EarlyMet
 pub mod CasesHold
 pub mod RequestMet

@@ -1,27 +1,30 @@
--- The calls that touch no list. Each keeps its promise if it is admitted as its tests say, answers by its admission, and stores or
--- leaves the one part that it may change accordingly.
+-- The calls that change at most one part of a target, and the one that makes it. Each keeps its promise if it is admitted as its
+-- tests say, answers by its admission, and stores or leaves the one part that it may change accordingly.
 use mathlib.Core.Path.{_≡_, refl, ap, sym, _∙_, subst}
-use mathlib.Core.Bool.{Bool, true, false, _&&_, cond}
+use mathlib.Core.Bool.{Bool, true, false, _&&_, not, cond, true≢false}
 use mathlib.Core.List.{List, [], _∷_}
 use Prim.Native.Nat.{ℕ}
 use native.Mathlib.Omega.{arith}
-use borrow.Author.Tests.{ltb-false}
+use borrow.Author.Tests.{not-true, not-false, ltb-false}
 use lib.Dec.{ltb}
 use lib.ListN.{set}
 use Rattle.matching.specs.declared.refusals.BadArgument.{BadArgument}
 use Rattle.matching.specs.declared.refusals.BadArgument.the-variants as BadArgument
-use Rattle.state.specs.View.{View, queueOf, viewOf, emptyTarget, emptyView, withQueue, withCounters}
+use Rattle.state.specs.Lists.{withoutFirst, removeAt}
+use Rattle.state.specs.View.{View, entriesOf, queueOf, viewOf, emptyTarget, emptyView, withEntries, withQueue, withCounters, isLinkedAs}
 use Rattle.state.specs.Soundness.{soundView, sound, seen}
 use Rattle.state.specs.Counters.{counterAt, increased}
 use Rattle.state.specs.Registers.{registerAt}
 use Rattle.state.specs.Events.{withoutOldest}
-use Rattle.state.specs.Parts.{QueueFits, QueueHolds, Popped, TargetFits}
+use Rattle.state.specs.Parts.{EntriesHold, QueueFits, QueueHolds, Popped, TargetFits}
 use Rattle.state.specs.declared.layout.Settings.{Settings}
+use Rattle.state.specs.declared.layout.Entries.{Entries}
 use Rattle.state.specs.declared.layout.Queue.{Queue}
 use Rattle.state.specs.declared.layout.Counter.{Counter}
 use Rattle.state.specs.declared.layout.Counters.{Counters}
 use Rattle.state.specs.declared.layout.CounterChange.{CounterChange}
 use Rattle.state.specs.declared.layout.Target.{Target}
+use Rattle.state.proofs.ListLaws.{First}
 use Rattle.state.proofs.SoundLaws.{Sound, facts-sound}
 use Rattle.portals.specs.Refusals.{goodArguments, unlessRefused}
 use Rattle.portals.specs.Admission.{byAdmission, isAdmitted, Admits}
@@ -30,11 +33,13 @@ use Rattle.portals.specs.Outcome.{Outcome, guarded}
 use Rattle.portals.specs.Making.{badSetting, notMade, new}
 use Rattle.portals.specs.EventRead.{oldestOf, eventTaken, readEvent}
 use Rattle.portals.specs.CounterCalls.{badCounterArgument, counterTests, counterDone, setCounter, increment, readCounter, badRegisterArgument, readRegister}
+use Rattle.portals.specs.EarlyMessages.{unlinkTests, unlink, EntriesUnlinked}
 use Rattle.portals.specs.Promises.{Met, ReadMet, NewMet}
 use Rattle.portals.specs.declared.answers.NewDone.{NewDone}
 use Rattle.portals.specs.declared.admission.Admission.{Admission}
 use Rattle.portals.specs.declared.admission.Admission.the-variants as Admission
 use Rattle.portals.proofs.GuardLaws.{guard-cases, unless-map}
+use Rattle.portals.proofs.EarlyKept.{unlink-sound}
 use Rattle.portals.proofs.CallLaws.{new-sound, set-sound, increment-sound, read-event-sound, oldest-answers}
 use Rattle.portals.proofs.AdmitLaws.{admits-for}
 use Rattle.portals.proofs.MetLaws.{seen-sound, sound-joined, fits-counts, Ending, met, read-met}
@@ -181,6 +186,75 @@ read-event-met t queue answer a takes admits e is p =
     met readEvent eventTaken (λ v. goodArguments BadArgument.None ∷ []) tt (λ v. refl) read-event-sound t (queueLeft t queue) tt answer a
     (admits .answer)
     (queue-ending t queue answer a (admits .fits) e (subst (λ (b : Bool). Popped (t .queue) b queue) is p))
+
+-- ## Unlink
+
+abbrev entriesLeft : Target → Entries → Target
+entriesLeft t entries = record {
+  size = t .size;
+  last = t .last;
+  entries = entries;
+  unexpected = t .unexpected;
+  queue = t .queue;
+  counters = t .counters;
+  registers = t .registers;
+}
+
+-- what it does where it is admitted
+abbrev unlinkDone : View → ℕ → Outcome View Unit
+unlinkDone v handle = record { answer = DONE; state = withEntries v (withoutFirst (isLinkedAs handle) (v .entries)); buffer = tt }
+
+module _ (es : Entries) (unlinks : Bool) (handle : ℕ) where
+  -- nothing is unlinked
+  pub unlinked-none : not unlinks ≡ true → EntriesUnlinked es unlinks handle es
+  unlinked-none e = record {
+    without = λ h. absurd (true≢false (sym h ∙ not-true unlinks e));
+    kept = λ h. refl;
+  }
+
+  -- the entry at the place where the handle is linked goes
+  pub unlinked-at : (es′ : Entries) (at : ℕ)
+      → not unlinks ≡ false
+      → First (isLinkedAs handle) (entriesOf es) at
+      → EntriesHold es′ (removeAt at (entriesOf es))
+      → EntriesUnlinked es unlinks handle es′
+  unlinked-at es′ at e first h = record {
+    without = λ u. record { held = h .held ∙ first .without; fits = h .fits };
+    kept = λ u. absurd (true≢false (sym (not-false unlinks e) ∙ u));
+  }
+
+entries-ending : (t : Target) (handle : ℕ) (entries : Entries) (answer : Answer) (a : Admission)
+    → (a ≡ Admission.Admitted → TargetFits t)
+    → answer ≡ byAdmission refused DONE a
+    → EntriesUnlinked (t .entries) (isAdmitted a) handle entries
+    → Ending (unlinkDone (viewOf t) handle) t tt (entriesLeft t entries) tt answer a
+entries-ending t handle entries answer Admission.Admitted fits e u =
+    let f = fits refl in
+    let h = u .without refl in
+    record {
+      answers = e;
+      granted = refl;
+      state = ap (withEntries (viewOf t)) (h .held);
+      buffer = refl;
+      counts = fits-counts (entriesLeft t entries) (record { entries = h .fits; unexpected = f .unexpected; queue = f .queue });
+    }
+entries-ending t handle entries answer (Admission.Refused r) fits e u = record {
+  answers = e;
+  state = ap (entriesLeft t) (u .kept refl);
+  buffer = refl;
+}
+
+pub unlink-met : (t : Target) (handle : ℕ) (entries : Entries) (answer : Answer) (a : Admission) (unlinks : Bool)
+    → Admits (λ v. unlinkTests v handle) t a
+    → answer ≡ byAdmission refused DONE a
+    → unlinks ≡ isAdmitted a
+    → EntriesUnlinked (t .entries) unlinks handle entries
+    → Met (λ v. unlink v handle) t tt answer (entriesLeft t entries) tt
+unfolding unlink
+unlink-met t handle entries answer a unlinks admits e is u =
+    met (λ v. unlink v handle) (λ v. unlinkDone v handle) (λ v. unlinkTests v handle) tt (λ v. refl) (λ v. unlink-sound v handle)
+    t (entriesLeft t entries) tt answer a (admits .answer)
+    (entries-ending t handle entries answer a (admits .fits) e (subst (λ (b : Bool). EntriesUnlinked (t .entries) b handle entries) is u))
 
 -- ## A new target
 

@@ -19,11 +19,12 @@ use Rattle.state.specs.declared.layout.Event.{Event}
 use Rattle.state.specs.declared.layout.Registers.{Registers}
 use Rattle.state.specs.declared.layout.CounterChange.{CounterChange}
 use Rattle.requests.specs.Plan.{message}
+use Rattle.early.specs.Handling.{newEntry}
 use Rattle.portals.specs.Answers.{Answer, REFUSED, LINKED, OVERFLOW, DROPPED, PERM, OP, COUNTER}
 use Rattle.portals.specs.EventRead.{readEvent}
 use Rattle.portals.specs.CounterCalls.{setCounter, increment, readCounter}
 use Rattle.portals.specs.Request.{put}
-use Rattle.portals.specs.EarlyMessages.{newEntry, append}
+use Rattle.portals.specs.EarlyMessages.{append}
 
 -- what happens to the event queue: an event is issued, or the oldest is read
 pub data Turn : Type 0 where

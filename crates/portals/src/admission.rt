@@ -1,4 +1,5 @@
 // Document 01, "Refusals": whether a call is admitted. It is decided before anything changes.
+use crate::answers::PlainAnswer;
 use matching::refusals;
 use matching::refusals::BadArgument;
 use matching::refusals::Refusal;
@@ -8,7 +9,8 @@ ghost use mathlib.Core.Path.{_≡_};
 ghost use mathlib.Core.List.{_∷_, []};
 ghost use Rattle.matching.specs.Refusals.{firstBad};
 ghost use Rattle.portals.specs.Refusals.{goodArguments};
-ghost use Rattle.portals.specs.Admission.{isAdmitted, Admits};
+ghost use Rattle.portals.specs.Admission.{byAdmission, isAdmitted, Admits};
+ghost use Rattle.portals.specs.Answers.{DONE, refused, plainAnswer};
 
 pub enum Admission {
     Admitted,
@@ -42,5 +44,15 @@ pub fn is_admitted(a: Admission) -> bool
     match a {
         Admission::Admitted => true,
         Admission::Refused(refusal) => false,
+    }
+}
+
+// What a call answers that says no more than that it is done.
+pub fn answer_plain(a: Admission) -> PlainAnswer
+    ensures { λ r. ⌜ plainAnswer r ≡ byAdmission refused DONE a ⌝ }
+{
+    match a {
+        Admission::Admitted => PlainAnswer::Done,
+        Admission::Refused(refusal) => PlainAnswer::Refused(refusal),
     }
 }

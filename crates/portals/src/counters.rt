@@ -2,7 +2,6 @@
 use crate::admission;
 use crate::admission::Admission;
 use crate::answers::CounterAnswer;
-use crate::answers::PlainAnswer;
 use crate::answers::PlainDone;
 use matching::refusals::BadArgument;
 use state::counters;
@@ -12,7 +11,7 @@ use state::layout::Target;
 use state::sizes;
 ghost use mathlib.Core.Path.{_≡_};
 ghost use Rattle.portals.specs.Admission.{byAdmission};
-ghost use Rattle.portals.specs.Answers.{DONE, COUNTER, refused, plainAnswer, counterAnswer};
+ghost use Rattle.portals.specs.Answers.{COUNTER, refused, counterAnswer};
 ghost use Rattle.portals.specs.CounterCalls.{badCounterArgument};
 ghost use Rattle.portals.specs.Promises.{SetCounterMet, IncrementMet, ReadCounterMet};
 
@@ -21,16 +20,6 @@ fn bad_counter_argument(k: u64) -> BadArgument
     ensures { λ r. ⌜ r ≡ badCounterArgument k ⌝ }
 {
     admission::bad_unless(k < sizes::COUNTERS, BadArgument::Counter)
-}
-
-// What a call that sets or increments answers.
-fn answer_plain(a: Admission) -> PlainAnswer
-    ensures { λ r. ⌜ plainAnswer r ≡ byAdmission refused DONE a ⌝ }
-{
-    match a {
-        Admission::Admitted => PlainAnswer::Done,
-        Admission::Refused(refusal) => PlainAnswer::Refused(refusal),
-    }
 }
 
 // What a counter read answers.
@@ -57,7 +46,7 @@ pub fn set_counter(t: Target, x: CounterChange) -> PlainDone
     let mut next = t;
     next.counters = counters::counter_put(t.counters, stores, x.counter, c);
     PlainDone {
-        answer: answer_plain(a),
+        answer: admission::answer_plain(a),
         target: next,
     }
 }
@@ -74,7 +63,7 @@ pub fn increment(t: Target, x: CounterChange) -> PlainDone
     let mut next = t;
     next.counters = counters::counter_put(t.counters, stores, x.counter, c);
     PlainDone {
-        answer: answer_plain(a),
+        answer: admission::answer_plain(a),
         target: next,
     }
 }

@@ -1,6 +1,7 @@
 // The calls on a target: what each answers and leaves.
 pub mod admission;
 pub mod answers;
+pub mod append;
 pub mod bench;
 pub mod counters;
 pub mod events;
@@ -8,3 +9,5 @@ pub mod laws;
 pub mod making;
 pub mod put_get;
 pub mod registers;
+pub mod search;
+pub mod unlink;

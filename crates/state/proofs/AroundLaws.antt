@@ -23,7 +23,7 @@ next-cases k count h = by (eqb (k + 1) count) refl
     by false e = let m : k + 1 ≡ count → ⊥ = eqb-false (k + 1) count e in inl (add-one k, omega arith)
 
 module _ {A : Type 0} (p : A → Bool) where
-  any-append : (l m : List A) → any p (l ++ m) ≡ (any p l || any p m)
+  pub any-append : (l m : List A) → any p (l ++ m) ≡ (any p l || any p m)
   any-append [] m = refl
   any-append (x ∷ l) m = ap (λ (b : Bool). p x || b) (any-append l m) ∙ sym (or-assoc (p x) (any p l) (any p m))
 

@@ -6,3 +6,4 @@ pub mod AroundLaws
 pub mod HandleLaws
 pub mod SoundLaws
 pub mod KeptLaws
+pub mod PostLaws

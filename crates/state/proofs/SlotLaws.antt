@@ -1,6 +1,6 @@
 -- Laws of an array of slots of which the first are in use, for any elements and any size.
 use mathlib.Core.Path.{_≡_, refl, ap, sym, _∙_}
-use mathlib.Core.Bool.{Bool, true, false}
+use mathlib.Core.Bool.{Bool, true, false, true≢false}
 use mathlib.Core.List.{List, [], _∷_, _++_}
 use mathlib.Core.Option.{none, some}
 use Prim.Native.Nat.{ℕ, zero, suc, _+_, _-_, _≤_, _<_}
@@ -8,8 +8,9 @@ use native.Mathlib.Omega.{arith}
 use native.Mathlib.Numerals.{add-one}
 use lib.ListN.{length, take, drop, getD, set, length-set, drop-of-length-le}
 use lib.Seq.{take-suc-set, take-set-lt, take-nil, drop-cons, length-take-le, getD-take}
-use Rattle.state.specs.Lists.{firstFrom, removeAt}
+use Rattle.state.specs.Lists.{any, firstFrom, removeAt, placeOr}
 use Rattle.state.specs.Parts.{Fits, Holds}
+use Rattle.state.proofs.ListLaws.{First, first-any}
 
 -- as many are in use as the count says
 pub in-use : {A : Type 0} {size n : ℕ} {s : List A} → Fits size s n → length (take n s) ≡ n
@@ -17,6 +18,14 @@ in-use {A} {size} {n} {s} f =
     let room : n ≤ size = f .room in
     let long : length s ≡ size = f .long in
     length-take-le n s (omega arith)
+
+-- the slots in use hold what they hold
+pub held-as-is : {A : Type 0} {size n : ℕ} {s : List A} → Fits size s n → Holds size s n (take n s)
+held-as-is f = record { held = refl; fits = f }
+
+-- so many are held as the list has
+pub held-count : {A : Type 0} {size n : ℕ} {s l : List A} → Holds size s n l → n ≡ length l
+held-count h = sym (in-use (h .fits)) ∙ ap length (h .held)
 
 -- ## Storing
 
@@ -158,3 +167,40 @@ module _ {A : Type 0} (p : A → Bool) where
   -- the end is reached
   pub sought-none : {size n : ℕ} {s : List A} {i : ℕ} → Seeking size n s i → n ≤ i → firstFrom p 0 (take n s) ≡ none
   sought-none {size} {n} {s} {i} k h = k .rest ∙ first-past p (take n s) i (rw (in-use (k .fits)) h)
+
+-- its place among those in use; their count if none passes
+module _ {A : Type 0} (p : A → Bool) {size n : ℕ} {s : List A} (fits : Fits size s n)
+    (at : ℕ) (is : at ≡ placeOr n (firstFrom p 0 (take n s))) where
+  -- it is the count
+  pub place-none : at ≡ n → any p (take n s) ≡ false
+  place-none e =
+      first-any p (λ o. placeOr n o ≡ n → any p (take n s) ≡ false) 0 (take n s)
+      (λ nowhere h. nowhere)
+      (λ m k same somewhere f h.
+      let long : length (take n s) ≡ n = in-use fits in
+      let inside : k < length (take n s) = f .inside in
+      absurd (omega arith))
+      (sym is ∙ e)
+
+  -- it is not
+  pub place-some : (at ≡ n → ⊥) → any p (take n s) ≡ true
+  place-some e =
+      first-any p (λ o. (placeOr n o ≡ n → ⊥) → any p (take n s) ≡ true) 0 (take n s)
+      (λ nowhere h. absurd (h refl))
+      (λ m k same somewhere f h. somewhere)
+      (λ h. e (is ∙ h))
+
+  -- where some element passes it is the place of the first that does
+  pub place-first : any p (take n s) ≡ true → First p (take n s) at
+  place-first e =
+      rw is
+      (first-any p (λ o. First p (take n s) (placeOr n o)) 0 (take n s)
+      (λ nowhere. absurd (true≢false (sym e ∙ nowhere)))
+      (λ m k same somewhere f. let h : m ≡ k = omega arith in rw h f))
+
+  -- and one in use
+  pub place-inside : any p (take n s) ≡ true → at < n
+  place-inside e =
+      let long : length (take n s) ≡ n = in-use fits in
+      let inside : at < length (take n s) = place-first e .inside in
+      omega arith

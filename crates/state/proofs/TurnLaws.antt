@@ -6,7 +6,7 @@ use Prim.Native.Nat.{ℕ, _+_, _≤_, _<_}
 use native.Mathlib.Numerals.{add-one}
 use lib.ListN.{length, take, drop, getD, drop-of-length-le}
 use lib.Seq.{drop-cons, getD-take}
-use Rattle.state.specs.Lists.{every}
+use Rattle.state.specs.Lists.{every, any}
 use Rattle.state.specs.Parts.{Fits}
 use Rattle.state.proofs.SlotLaws.{in-use}
 
@@ -50,3 +50,15 @@ module _ {A : Type 0} {size : ℕ} (slots : List A) (count : ℕ) (fits : Fits s
     -- none is left
     pub every-told : (all so-far : Bool) → count ≤ i → all ≡ (so-far && every p (drop i (take count slots))) → so-far ≡ all
     every-told all so-far h f = sym (f ∙ rw (every-end h) (and-true so-far))
+
+    -- some passes: slot i does not, so one after it does
+    pub any-on : (d : A) → i < count → p (getD slots i d) ≡ false → any p (drop i (take count slots)) ≡ any p (drop (i + 1) (take count slots))
+    any-on d h e = rw (slot-and-rest i d h, e)
+
+    -- slot i passes
+    pub any-hit : (d : A) → i < count → p (getD slots i d) ≡ true → any p (drop i (take count slots)) ≡ true
+    any-hit d h e = rw (slot-and-rest i d h, e)
+
+    -- none is left
+    pub any-end : count ≤ i → any p (drop i (take count slots)) ≡ false
+    any-end h = rw (none-left i h)

@@ -1,6 +1,6 @@
 use borrow.Author.Needs.{needs}
-use Rattle.portals.proofs.counters.answer_plain.Statement.{statement}
-use Rattle.portals.proofs.counters.answer_plain.Tie as tie
+use Rattle.portals.proofs.admission.answer_plain.Statement.{statement}
+use Rattle.portals.proofs.admission.answer_plain.Tie as tie
 
 enum-told : tie.Need-enum-told
 enum-told c = search needs

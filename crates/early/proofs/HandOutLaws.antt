@@ -1,0 +1,201 @@
+-- The loops over the headers that were found, and over the entries that keep their slot.
+use mathlib.Core.Path.{_≡_, refl, ap, sym, _∙_}
+use mathlib.Core.Bool.{Bool, true, false, _&&_, not, and-true, and-false}
+use mathlib.Core.List.{List, [], _∷_, _++_, append-nil, append-assoc}
+use Prim.Native.Nat.{ℕ, _+_, _≤_, _<_}
+use native.Mathlib.Omega.{arith}
+use borrow.Author.Tests.{eqb-true, eqb-false, ne-eqb}
+use lib.Dec.{eqb}
+use lib.ListN.{length, take, drop, getD, length-append}
+use lib.Seq.{getD-take}
+use Rattle.matching.specs.declared.layout.Entry.{Entry}
+use Rattle.state.specs.Lists.{every, any, select, sumOf}
+use Rattle.state.specs.Sizes.{SLOTS, HEADERS}
+use Rattle.state.specs.View.{EventQueue, entriesOf, queueOf, zeroHeader}
+use Rattle.state.specs.Soundness.{names}
+use Rattle.state.specs.Events.{Issued, overflowEvent, autoFreeEvent, post, postAll}
+use Rattle.state.specs.Parts.{Fits, Holds, QueueHolds}
+use Rattle.state.specs.declared.layout.HeldEntry.{HeldEntry}
+use Rattle.state.specs.declared.layout.Header.{Header}
+use Rattle.state.specs.declared.layout.Entries.{Entries}
+use Rattle.state.specs.declared.layout.Event.{Event}
+use Rattle.state.specs.declared.layout.Queue.{Queue}
+use Rattle.state.proofs.ListLaws.{both}
+use Rattle.state.proofs.SlotLaws.{in-use, held-count}
+use Rattle.state.proofs.TurnLaws.{slot-and-rest, none-left}
+use Rattle.state.proofs.PostLaws.{issued-posted, then-posted, issuedBy, Posting, posting-more}
+use Rattle.early.specs.HandOut.{freedBy, handOutEvent, handOutEvents}
+use Rattle.early.specs.Parts.{walkOf, headerFound, isRetiredAs}
+use Rattle.early.specs.declared.walk.Walked.{Walked}
+
+-- ## Sums
+
+module _ {A : Type 0} {size : ℕ} (s : List A) (n : ℕ) (fits : Fits size s n) (f : A → ℕ) (i : ℕ) where
+  -- so far, and those from i on: the number of slot i moves from what is left to what was added
+  pub sum-turn : (all sum amount : ℕ) (d : A)
+      → i < n
+      → amount ≡ f (getD s i d)
+      → all ≡ sum + sumOf f (drop i (take n s))
+      → all ≡ (sum + amount) + sumOf f (drop (i + 1) (take n s))
+  sum-turn all sum amount d h e so-far =
+      let turn : sumOf f (drop i (take n s)) ≡ f (getD s i d) + sumOf f (drop (i + 1) (take n s)) = rw (slot-and-rest s n fits i d h) in
+      omega arith
+
+  -- none is left
+  pub sum-end : (all sum : ℕ) → n ≤ i → all ≡ sum + sumOf f (drop i (take n s)) → sum ≡ all
+  sum-end all sum h so-far =
+      let none : sumOf f (drop i (take n s)) ≡ 0 = rw (none-left s n fits i h) in
+      omega arith
+
+-- ## Selecting
+
+-- where all pass, all are selected
+pub select-all : {A : Type 0} (p : A → Bool) (l : List A) → every p l ≡ true → select p l ≡ l
+select-all p [] e = refl
+select-all p (x ∷ l) e =
+    let s = both (p x) (every p l) e in
+    rw (s .0) (ap (λ (r : List _). x ∷ r) (select-all p l (s .1)))
+
+module _ {A : Type 0} (p : A → Bool) where
+  -- the loop that selects among the first n of s, at place i: what was kept so far, and what is selected of the rest
+  pub record Selecting (size n : ℕ) (s kept : List A) (k i : ℕ) : Type 0 where
+    pub within : i ≤ n
+    pub most : k ≤ i
+    pub slots : Fits size s n
+    pub fits : Fits size kept k
+    pub rest : select p (take n s) ≡ take k kept ++ select p (drop i (take n s))
+
+  -- it begins with none kept
+  pub selecting : {size n : ℕ} {s : List A} → Fits size s n → Selecting size n s s 0 0
+  selecting f = record {
+    within = omega arith;
+    most = omega arith;
+    slots = f;
+    fits = record { room = omega arith; long = f .long };
+    rest = refl;
+  }
+
+  -- there is room for one more
+  pub selecting-room : {size n : ℕ} {s kept : List A} {k i : ℕ} → Selecting size n s kept k i → i < n → k < size
+  selecting-room {size} {n} {s} {kept} {k} {i} t inside =
+      let most : k ≤ i = t .most in
+      let room : n ≤ size = t .slots .room in
+      omega arith
+
+  module _ {size n : ℕ} {s kept : List A} {k i : ℕ} (t : Selecting size n s kept k i) (d : A) (inside : i < n) where
+    -- the element at i is selected
+    pub selecting-more : (kept′ : List A) (k′ : ℕ)
+        → p (getD s i d) ≡ true
+        → Holds size kept′ k′ (take k kept ++ (getD s i d ∷ []))
+        → Selecting size n s kept′ k′ (i + 1)
+    selecting-more kept′ k′ e h =
+        let x = getD s i d in
+        let more : k′ ≡ length (take k kept ++ (x ∷ [])) = held-count h in
+        let one : length (take k kept ++ (x ∷ [])) ≡ length (take k kept) + 1 = length-append (take k kept) (x ∷ []) in
+        let before : length (take k kept) ≡ k = in-use (t .fits) in
+        let most : k ≤ i = t .most in
+        record {
+          within = omega arith;
+          most = omega arith;
+          slots = t .slots;
+          fits = h .fits;
+          rest =
+              t .rest
+              ∙ rw (slot-and-rest s n (t .slots) i d inside, e, h .held)
+              (sym (append-assoc (take k kept) (x ∷ []) (select p (drop (i + 1) (take n s)))));
+        }
+
+    -- it is not
+    pub selecting-on : p (getD s i d) ≡ false → Selecting size n s kept k (i + 1)
+    selecting-on e = record {
+      within = omega arith;
+      most = let most : k ≤ i = t .most in omega arith;
+      slots = t .slots;
+      fits = t .fits;
+      rest = t .rest ∙ rw (slot-and-rest s n (t .slots) i d inside, e);
+    }
+
+  -- the end is reached
+  pub selected : {size n : ℕ} {s kept : List A} {k i : ℕ} → Selecting size n s kept k i → n ≤ i → Holds size kept k (select p (take n s))
+  selected {size} {n} {s} {kept} {k} {i} t past = record {
+    held = sym (t .rest ∙ rw (none-left s n (t .slots) i past) (append-nil (take k kept)));
+    fits = t .fits;
+  }
+
+-- ## AUTO_FREE
+
+-- of the retired entries with this handle
+abbrev pub freesOf : ℕ → List HeldEntry → List Issued
+freesOf handle entries = issuedBy (isRetiredAs handle) autoFreeEvent entries
+
+-- ## One header
+
+module _ (h : Header) (others : List Header) where
+  -- an entry is freed by its last header where it is retired, has the header's handle, and no other header names that
+  freed-is : (x : HeldEntry) → freedBy h others x ≡ (isRetiredAs (h .handle) x && not (any (names (h .handle)) others))
+  freed-is x = by (eqb (x .handle) (h .handle)) refl
+    where
+      by : (same : Bool) → eqb (x .handle) (h .handle) ≡ same → freedBy h others x ≡ (isRetiredAs (h .handle) x && not (any (names (h .handle)) others))
+      by true e =
+          let own : x .handle ≡ h .handle = eqb-true (x .handle) (h .handle) e in
+          rw own
+      by false e =
+          let other : eqb (h .handle) (x .handle) ≡ false = ne-eqb (h .handle) (x .handle) (λ p. eqb-false (x .handle) (h .handle) e (sym p)) in
+          rw (e, other, and-false)
+
+  -- another header still names it: none is freed
+  pub freed-none : (l : List HeldEntry) → any (names (h .handle)) others ≡ true → select (freedBy h others) l ≡ []
+  freed-none [] e = refl
+  freed-none (x ∷ l) e = rw (freed-is x, e, and-false) (freed-none l e)
+
+  -- no other does: those with its handle that are retired
+  pub freed-all : (l : List HeldEntry) → any (names (h .handle)) others ≡ false → select (freedBy h others) l ≡ select (isRetiredAs (h .handle)) l
+  freed-all [] e = refl
+  freed-all (x ∷ l) e = rw (freed-is x, e, and-true, freed-all l e)
+
+-- the header found at a place is the slot there
+slot-found : (w : Walked) (i : ℕ) → i < w .found .count → getD (w .found .slots) i zeroHeader ≡ headerFound w i
+slot-found w i inside = sym (getD-take (w .found .count) (w .found .slots) i zeroHeader inside)
+
+-- the header found at place i is handed out: its overflow event is made and posted
+module _ (e : Entry) (owner : ℕ) (es : Entries) (w : Walked) (i : ℕ) (inside : i < w .found .count) (q q′ : Queue) (event : Event)
+    (made : event ≡ overflowEvent (getD (w .found .slots) i zeroHeader) e owner .event)
+    (posted : QueueHolds q′ (post (queueOf q) (record { event = event; options = e .options }))) where
+  abbrev still : List Header
+  still = drop (i + 1) (walkOf w .found) ++ walkOf w .left
+
+  abbrev own : Header
+  own = getD (w .found .slots) i zeroHeader
+
+  overflow-posted : QueueHolds q′ (postAll (queueOf q) (overflowEvent own e owner ∷ []))
+  overflow-posted = issued-posted q′ (queueOf q) event (overflowEvent own e owner) made posted
+
+  -- another header still names its entry
+  pub handed-waiting : (waits : Bool)
+      → waits ≡ any (names (getD (w .found .slots) i zeroHeader .handle)) (drop (i + 1) (walkOf w .found) ++ walkOf w .left)
+      → waits ≡ true
+      → QueueHolds q′ (postAll (queueOf q) (handOutEvent e owner (entriesOf es) (headerFound w i) (drop (i + 1) (walkOf w .found) ++ walkOf w .left)))
+  handed-waiting waits is other = rw (← slot-found w i inside, freed-none own still (entriesOf es) (sym is ∙ other)) overflow-posted
+
+  -- none does: AUTO_FREE follows
+  pub handed-freed : (waits : Bool) (q″ : Queue)
+      → waits ≡ any (names (getD (w .found .slots) i zeroHeader .handle)) (drop (i + 1) (walkOf w .found) ++ walkOf w .left)
+      → waits ≡ false
+      → QueueHolds q″ (postAll (queueOf q′) (freesOf (getD (w .found .slots) i zeroHeader .handle) (entriesOf es)))
+      → QueueHolds q″ (postAll (queueOf q) (handOutEvent e owner (entriesOf es) (headerFound w i) (drop (i + 1) (walkOf w .found) ++ walkOf w .left)))
+  handed-freed waits q″ is last freed =
+      rw (← slot-found w i inside, freed-all own still (entriesOf es) (sym is ∙ last))
+      (then-posted q′ q″ (queueOf q) (overflowEvent own e owner ∷ []) (freesOf (own .handle) (entriesOf es)) overflow-posted freed)
+
+-- ## All headers found
+
+-- a turn of the loop over them: the one at place i is handed out
+pub handing-more : (e : Entry) (owner : ℕ) (entries : List HeldEntry) (w : Walked) (i : ℕ) (v : EventQueue) (q q′ : Queue)
+    → Posting (handOutEvents e owner entries (walkOf w .left)) HEADERS (w .found .count) (w .found .slots) v q i
+    → i < w .found .count
+    → QueueHolds q′ (postAll (queueOf q) (handOutEvent e owner entries (headerFound w i) (drop (i + 1) (walkOf w .found) ++ walkOf w .left)))
+    → Posting (handOutEvents e owner entries (walkOf w .left)) HEADERS (w .found .count) (w .found .slots) v q′ (i + 1)
+handing-more e owner entries w i v q q′ p inside handed =
+    let h = getD (w .found .slots) i zeroHeader in
+    posting-more (handOutEvents e owner entries (walkOf w .left)) q′ zeroHeader
+    (handOutEvent e owner entries h (drop (i + 1) (walkOf w .found) ++ walkOf w .left)) p inside refl (rw (slot-found w i inside) handed)
