@@ -17,7 +17,7 @@ use Rattle.state.specs.declared.layout.Unexpected.{Unexpected}
 use Rattle.state.proofs.ListLaws.{both}
 use Rattle.state.proofs.SlotLaws.{in-use, held-count}
 use Rattle.state.proofs.TurnLaws.{slot-and-rest, none-left}
-use Rattle.early.specs.Walk.{fitsHeader, Walk, walk, noWalk, usesOnce, walkFor, walkIf}
+use Rattle.early.specs.Walk.{fitsHeader, Walk, walk, noWalk, usesOnce, walkFor, walkIf, foundOnce}
 use Rattle.early.specs.Parts.{WalkHolds}
 use Rattle.early.specs.declared.walk.Walked.{Walked}
 
@@ -185,3 +185,7 @@ found-some {A} {size} {n} s fits = by n s (in-use fits)
     by zero s h = refl
     by (suc n) [] h = absurd (omega arith)
     by (suc n) (x ∷ s) h = lt-ltb 0 (suc n) (omega arith)
+
+-- with USE_ONCE there is a fit: the option is set, and some header is found
+pub once-found : (e : Entry) (w : Walk Header) (once some-found : Bool) → once ≡ usesOnce e → some-found ≡ not (isEmpty (w .found)) → (once && some-found) ≡ foundOnce e w
+once-found e w once some-found is found = rw (is, found)

@@ -55,7 +55,7 @@ loop-again c =
     let k = f .before .before .before in
     let o = k .before .before .before in
     let s = o .before in
-    walking-found (s .args .e) (s .args .t1) (s .pre) _ _ _ _ (k .loop .inv) _ _ _ (o .uses-once .ensures) (search needs)
+    walking-found (s .args .e) (s .args .t1) (s .pre) _ _ _ _ (k .loop .inv) _ _ (o .uses-once .result) (o .uses-once .ensures) (search needs)
     (ap (λ (b : Bool). not (k .loop .over) && b) (sym (f .fits-header .ensures)) ∙ c .before .if1 .taken)
     (c .header-added .ensures)
 

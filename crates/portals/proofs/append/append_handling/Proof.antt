@@ -1,5 +1,7 @@
 -- By the answer that the arm knows.
+use mathlib.Core.Path.{ap, sym}
 use borrow.Author.Needs.{needs}
+use Rattle.portals.specs.EarlyMessages.{appendHandling}
 use Rattle.portals.proofs.append.append_handling.Statement.{statement}
 use Rattle.portals.proofs.append.append_handling.Tie as tie
 
@@ -13,13 +15,13 @@ enum-known-answer-2 : tie.Need-enum-known-answer-2
 enum-known-answer-2 c = search needs
 
 returns : tie.Need-returns
-returns c = rw (c .before .answer .given .1)
+returns c = sym (ap appendHandling (c .before .answer .given .1))
 
 returns-2 : tie.Need-returns-2
-returns-2 c = search needs
+returns-2 c = sym (ap appendHandling (c .enum-told .given .1))
 
 returns-3 : tie.Need-returns-3
-returns-3 c = search needs
+returns-3 c = sym (ap appendHandling (c .before .answer2 .given .1))
 
 pub append-handling-spec : {M : Type 1} → statement M
 append-handling-spec =
