@@ -14,7 +14,7 @@ use Rattle.state.specs.declared.layout.Target.{Target}
 use Rattle.state.proofs.SoundLaws.{target-sound}
 use Rattle.early.specs.Walk.{Walk, fitsHeader, walk, usesOnce, walkFor, walkIf}
 use Rattle.early.specs.Handling.{handled}
-use Rattle.early.specs.Parts.{walkOf, WalkFits, WalkHolds, TargetAllows, TargetAfter}
+use Rattle.early.specs.Parts.{walkOf, WalkFits, WalkHolds, isDone, TargetAllows, TargetAfter}
 use Rattle.early.specs.declared.walk.Walked.{Walked}
 use Rattle.early.specs.declared.handling.Handling.{Handling}
 use Rattle.early.specs.declared.handling.Handling.the-variants as Handling
@@ -68,15 +68,26 @@ walk-allows t walks e w sound fits h = record {
 -- ## The target
 
 module _ (t t′ : Target) (e : Entry) (w : Walked) where
-  -- what it holds
-  pub after-view : (h : Handling) → TargetAfter t e w h t′ → viewOf t′ ≡ handled (viewOf t) e (walkOf w) h
+  -- what it holds where something was done, and that its parts fit
+  pub after-view : (how : Handling) → isDone how ≡ true → TargetAfter t e w how t′ → viewOf t′ ≡ handled (viewOf t) e (walkOf w) how
   unfolding handled
-  after-view Handling.Nothing l = rw (l .size, l .last, l .entries, l .unexpected, l .queue, l .counters, l .registers)
-  after-view Handling.Look l = rw (l .size, l .last, l .entries .held, l .unexpected .held, l .queue .held, l .counters, l .registers)
-  after-view Handling.Delete l = rw (l .size, l .last, l .entries .held, l .unexpected .held, l .queue .held, l .counters, l .registers)
-  after-view Handling.Take l = rw (l .size, l .last, l .entries .held, l .unexpected .held, l .queue .held, l .counters, l .registers)
-  after-view (Handling.Link handle) l =
-      rw (l .size, l .last, l .entries .held, l .unexpected .held, l .queue .held, l .counters, l .registers)
+  after-view how done l =
+      rw (
+        l .size,
+        l .last,
+        l .entries .done done .held,
+        l .unexpected .done done .held,
+        l .queue .done done .held,
+        l .counters .done done,
+        l .registers,
+      )
+
+  pub after-fits : (how : Handling) → isDone how ≡ true → TargetAfter t e w how t′ → TargetFits t′
+  after-fits how done l = record {
+    entries = l .entries .done done .fits;
+    unexpected = l .unexpected .done done .fits;
+    queue = l .queue .done done .fits;
+  }
 
   -- it is the very same where nothing was done
   pub after-same : TargetAfter t e w Handling.Nothing t′ → t′ ≡ t
@@ -91,13 +102,5 @@ module _ (t t′ : Target) (e : Entry) (w : Walked) where
         counters = t′ .counters;
         registers = t′ .registers;
       })
-      t = rw (l .size, l .last, l .entries, l .unexpected, l .queue, l .counters, l .registers) in
+      t = rw (l .size, l .last, l .entries .kept refl, l .unexpected .kept refl, l .queue .kept refl, l .counters .kept refl, l .registers) in
       same
-
-  -- its parts fit
-  pub after-fits : (h : Handling) → TargetFits t → TargetAfter t e w h t′ → TargetFits t′
-  after-fits Handling.Nothing f l = rw (after-same l) f
-  after-fits Handling.Look f l = record { entries = l .entries .fits; unexpected = l .unexpected .fits; queue = l .queue .fits }
-  after-fits Handling.Delete f l = record { entries = l .entries .fits; unexpected = l .unexpected .fits; queue = l .queue .fits }
-  after-fits Handling.Take f l = record { entries = l .entries .fits; unexpected = l .unexpected .fits; queue = l .queue .fits }
-  after-fits (Handling.Link handle) f l = record { entries = l .entries .fits; unexpected = l .unexpected .fits; queue = l .queue .fits }

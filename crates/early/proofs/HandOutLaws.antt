@@ -1,31 +1,29 @@
 -- The loops over the headers that were found, and over the entries that keep their slot.
 use mathlib.Core.Path.{_≡_, refl, ap, sym, _∙_}
-use mathlib.Core.Bool.{Bool, true, false, _&&_, not, and-true, and-false}
-use mathlib.Core.List.{List, [], _∷_, _++_, append-nil, append-assoc}
+use mathlib.Core.Bool.{Bool, true, false, not, and-false}
+use mathlib.Core.List.{List, [], _∷_, _++_, append-nil, append-assoc, map}
 use Prim.Native.Nat.{ℕ, _+_, _≤_, _<_}
 use native.Mathlib.Omega.{arith}
 use borrow.Author.Tests.{eqb-true, eqb-false, ne-eqb}
 use lib.Dec.{eqb}
 use lib.ListN.{length, take, drop, getD, length-append}
-use lib.Seq.{getD-take}
 use Rattle.matching.specs.declared.layout.Entry.{Entry}
 use Rattle.state.specs.Lists.{every, any, select, sumOf}
-use Rattle.state.specs.Sizes.{SLOTS, HEADERS}
-use Rattle.state.specs.View.{EventQueue, entriesOf, queueOf, zeroHeader}
+use Rattle.state.specs.Sizes.{HEADERS}
+use Rattle.state.specs.View.{EventQueue, queueOf}
 use Rattle.state.specs.Soundness.{names}
-use Rattle.state.specs.Events.{Issued, overflowEvent, autoFreeEvent, post, postAll}
+use Rattle.state.specs.Events.{overflowEvent, autoFreeEvent, post, postAll}
 use Rattle.state.specs.Parts.{Fits, Holds, QueueHolds}
 use Rattle.state.specs.declared.layout.HeldEntry.{HeldEntry}
 use Rattle.state.specs.declared.layout.Header.{Header}
-use Rattle.state.specs.declared.layout.Entries.{Entries}
 use Rattle.state.specs.declared.layout.Event.{Event}
 use Rattle.state.specs.declared.layout.Queue.{Queue}
 use Rattle.state.proofs.ListLaws.{both}
 use Rattle.state.proofs.SlotLaws.{in-use, held-count}
 use Rattle.state.proofs.TurnLaws.{slot-and-rest, none-left}
-use Rattle.state.proofs.PostLaws.{issued-posted, then-posted, issuedBy, Posting, posting-more}
+use Rattle.state.proofs.PostLaws.{issued-posted, then-posted, Posting, posting-more}
 use Rattle.early.specs.HandOut.{freedBy, handOutEvent, handOutEvents}
-use Rattle.early.specs.Parts.{walkOf, headerFound, isRetiredAs}
+use Rattle.early.specs.Parts.{walkOf, othersWaiting, isFreed, freeEvents}
 use Rattle.early.specs.declared.walk.Walked.{Walked}
 
 -- ## Sums
@@ -55,6 +53,11 @@ select-all p [] e = refl
 select-all p (x ∷ l) e =
     let s = both (p x) (every p l) e in
     rw (s .0) (ap (λ (r : List _). x ∷ r) (select-all p l (s .1)))
+
+-- two tests that say the same select the same
+select-same : {A : Type 0} (p q : A → Bool) (l : List A) → ((x : A) → p x ≡ q x) → select p l ≡ select q l
+select-same p q [] same = refl
+select-same p q (x ∷ l) same = rw (same x, select-same p q l same)
 
 module _ {A : Type 0} (p : A → Bool) where
   -- the loop that selects among the first n of s, at place i: what was kept so far, and what is selected of the rest
@@ -124,18 +127,12 @@ module _ {A : Type 0} (p : A → Bool) where
 
 -- ## AUTO_FREE
 
--- of the retired entries with this handle
-abbrev pub freesOf : ℕ → List HeldEntry → List Issued
-freesOf handle entries = issuedBy (isRetiredAs handle) autoFreeEvent entries
-
--- ## One header
-
 module _ (h : Header) (others : List Header) where
-  -- an entry is freed by its last header where it is retired, has the header's handle, and no other header names that
-  freed-is : (x : HeldEntry) → freedBy h others x ≡ (isRetiredAs (h .handle) x && not (any (names (h .handle)) others))
+  -- a header is a retired entry's last where no other header names its handle
+  freed-is : (x : HeldEntry) → freedBy h others x ≡ isFreed (h .handle) (not (any (names (h .handle)) others)) x
   freed-is x = by (eqb (x .handle) (h .handle)) refl
     where
-      by : (same : Bool) → eqb (x .handle) (h .handle) ≡ same → freedBy h others x ≡ (isRetiredAs (h .handle) x && not (any (names (h .handle)) others))
+      by : (same : Bool) → eqb (x .handle) (h .handle) ≡ same → freedBy h others x ≡ isFreed (h .handle) (not (any (names (h .handle)) others)) x
       by true e =
           let own : x .handle ≡ h .handle = eqb-true (x .handle) (h .handle) e in
           rw own
@@ -143,59 +140,29 @@ module _ (h : Header) (others : List Header) where
           let other : eqb (h .handle) (x .handle) ≡ false = ne-eqb (h .handle) (x .handle) (λ p. eqb-false (x .handle) (h .handle) e (sym p)) in
           rw (e, other, and-false)
 
-  -- another header still names it: none is freed
-  pub freed-none : (l : List HeldEntry) → any (names (h .handle)) others ≡ true → select (freedBy h others) l ≡ []
-  freed-none [] e = refl
-  freed-none (x ∷ l) e = rw (freed-is x, e, and-false) (freed-none l e)
-
-  -- no other does: those with its handle that are retired
-  pub freed-all : (l : List HeldEntry) → any (names (h .handle)) others ≡ false → select (freedBy h others) l ≡ select (isRetiredAs (h .handle)) l
-  freed-all [] e = refl
-  freed-all (x ∷ l) e = rw (freed-is x, e, and-true, freed-all l e)
-
--- the header found at a place is the slot there
-slot-found : (w : Walked) (i : ℕ) → i < w .found .count → getD (w .found .slots) i zeroHeader ≡ headerFound w i
-slot-found w i inside = sym (getD-take (w .found .count) (w .found .slots) i zeroHeader inside)
-
--- the header found at place i is handed out: its overflow event is made and posted
-module _ (e : Entry) (owner : ℕ) (es : Entries) (w : Walked) (i : ℕ) (inside : i < w .found .count) (q q′ : Queue) (event : Event)
-    (made : event ≡ overflowEvent (getD (w .found .slots) i zeroHeader) e owner .event)
-    (posted : QueueHolds q′ (post (queueOf q) (record { event = event; options = e .options }))) where
-  abbrev still : List Header
-  still = drop (i + 1) (walkOf w .found) ++ walkOf w .left
-
-  abbrev own : Header
-  own = getD (w .found .slots) i zeroHeader
-
-  overflow-posted : QueueHolds q′ (postAll (queueOf q) (overflowEvent own e owner ∷ []))
-  overflow-posted = issued-posted q′ (queueOf q) event (overflowEvent own e owner) made posted
-
-  -- another header still names its entry
-  pub handed-waiting : (waits : Bool)
-      → waits ≡ any (names (getD (w .found .slots) i zeroHeader .handle)) (drop (i + 1) (walkOf w .found) ++ walkOf w .left)
-      → waits ≡ true
-      → QueueHolds q′ (postAll (queueOf q) (handOutEvent e owner (entriesOf es) (headerFound w i) (drop (i + 1) (walkOf w .found) ++ walkOf w .left)))
-  handed-waiting waits is other = rw (← slot-found w i inside, freed-none own still (entriesOf es) (sym is ∙ other)) overflow-posted
-
-  -- none does: AUTO_FREE follows
-  pub handed-freed : (waits : Bool) (q″ : Queue)
-      → waits ≡ any (names (getD (w .found .slots) i zeroHeader .handle)) (drop (i + 1) (walkOf w .found) ++ walkOf w .left)
-      → waits ≡ false
-      → QueueHolds q″ (postAll (queueOf q′) (freesOf (getD (w .found .slots) i zeroHeader .handle) (entriesOf es)))
-      → QueueHolds q″ (postAll (queueOf q) (handOutEvent e owner (entriesOf es) (headerFound w i) (drop (i + 1) (walkOf w .found) ++ walkOf w .left)))
-  handed-freed waits q″ is last freed =
-      rw (← slot-found w i inside, freed-all own still (entriesOf es) (sym is ∙ last))
-      (then-posted q′ q″ (queueOf q) (overflowEvent own e owner ∷ []) (freesOf (own .handle) (entriesOf es)) overflow-posted freed)
+  -- so its AUTO_FREE is that of the entry with this handle
+  frees : (last : Bool) (l : List HeldEntry) → last ≡ not (any (names (h .handle)) others)
+      → freeEvents (h .handle) last l ≡ map autoFreeEvent (select (freedBy h others) l)
+  frees last l e = ap (map autoFreeEvent) (select-same (isFreed (h .handle) last) (freedBy h others) l (λ x. rw e (sym (freed-is x))))
 
 -- ## All headers found
 
--- a turn of the loop over them: the one at place i is handed out
-pub handing-more : (e : Entry) (owner : ℕ) (entries : List HeldEntry) (w : Walked) (i : ℕ) (v : EventQueue) (q q′ : Queue)
+-- a turn of the loop over them, at place i: the overflow event of the header there is made and posted, and then AUTO_FREE
+pub handing-more : (e : Entry) (owner : ℕ) (entries : List HeldEntry) (w : Walked) (i : ℕ) (d : Header) (v : EventQueue) (q q′ q″ : Queue)
+    (event : Event) (waits : Bool)
     → Posting (handOutEvents e owner entries (walkOf w .left)) HEADERS (w .found .count) (w .found .slots) v q i
     → i < w .found .count
-    → QueueHolds q′ (postAll (queueOf q) (handOutEvent e owner entries (headerFound w i) (drop (i + 1) (walkOf w .found) ++ walkOf w .left)))
-    → Posting (handOutEvents e owner entries (walkOf w .left)) HEADERS (w .found .count) (w .found .slots) v q′ (i + 1)
-handing-more e owner entries w i v q q′ p inside handed =
-    let h = getD (w .found .slots) i zeroHeader in
-    posting-more (handOutEvents e owner entries (walkOf w .left)) q′ zeroHeader
-    (handOutEvent e owner entries h (drop (i + 1) (walkOf w .found) ++ walkOf w .left)) p inside refl (rw (slot-found w i inside) handed)
+    → event ≡ overflowEvent (getD (w .found .slots) i d) e owner .event
+    → QueueHolds q′ (post (queueOf q) (record { event = event; options = e .options }))
+    → waits ≡ any (names (getD (w .found .slots) i d .handle)) (othersWaiting w i)
+    → QueueHolds q″ (postAll (queueOf q′) (freeEvents (getD (w .found .slots) i d .handle) (not waits) entries))
+    → Posting (handOutEvents e owner entries (walkOf w .left)) HEADERS (w .found .count) (w .found .slots) v q″ (i + 1)
+handing-more e owner entries w i d v q q′ q″ event waits p inside made posted is freed =
+    let h = getD (w .found .slots) i d in
+    let others = othersWaiting w i in
+    let first : QueueHolds q′ (postAll (queueOf q) (overflowEvent h e owner ∷ [])) =
+    issued-posted q′ (queueOf q) event (overflowEvent h e owner) made posted in
+    let then : QueueHolds q″ (postAll (queueOf q′) (map autoFreeEvent (select (freedBy h others) entries))) =
+    rw (← frees h others (not waits) entries (ap not is)) freed in
+    posting-more (handOutEvents e owner entries (walkOf w .left)) q″ d (handOutEvent e owner entries h others) p inside refl
+    (then-posted q′ q″ (queueOf q) (overflowEvent h e owner ∷ []) (map autoFreeEvent (select (freedBy h others) entries)) first then)

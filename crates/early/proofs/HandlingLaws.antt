@@ -1,5 +1,6 @@
 -- What a handling claims and leaves, by its variants; what a target lets its parts ask.
-use mathlib.Core.Path.{_≡_, refl, ap}
+use mathlib.Core.Path.{_≡_, refl, ap, sym, _∙_}
+use mathlib.Core.Bool.{true, false, true≢false}
 use mathlib.Core.List.{[], _∷_}
 use Prim.Native.Nat.{ℕ, _<_}
 use native.Mathlib.Omega.{arith}
@@ -17,19 +18,20 @@ use Rattle.state.proofs.ListLaws.{part-select, part-length}
 use Rattle.state.proofs.SlotLaws.{in-use}
 use Rattle.early.specs.Walk.{Walk}
 use Rattle.early.specs.Handling.{entriesKept, lastAfter}
-use Rattle.early.specs.Parts.{IfDone, EntriesAllow, QueueAllows, TargetAllows}
+use Rattle.early.specs.Parts.{isDone, IfDone, PartAfter, EntriesAllow, QueueAllows, TargetAllows}
 use Rattle.early.specs.declared.walk.Walked.{Walked}
 use Rattle.early.specs.declared.handling.Handling.{Handling}
 use Rattle.early.specs.declared.handling.Handling.the-variants as Handling
 use Rattle.early.proofs.handling.Handling.{the-type}
 
--- where a claim follows from another, it does so where something is done
-pub claim-follows : (P Q : Type 0) → (P → Q) → (h : Handling) → IfDone h P → IfDone h Q
-claim-follows P Q follows Handling.Nothing held = tt
-claim-follows P Q follows Handling.Look held = follows held
-claim-follows P Q follows Handling.Delete held = follows held
-claim-follows P Q follows Handling.Take held = follows held
-claim-follows P Q follows (Handling.Link handle) held = follows held
+module _ {S : Type 0} {made : S → Type 0} {part : S} {how : Handling} where
+  -- where something is done the part is made anew
+  pub part-made : {part′ : S} → isDone how ≡ true → made part′ → PartAfter made part how part′
+  part-made done new = record { done = λ e. new; kept = λ e. absurd (true≢false (sym done ∙ e)) }
+
+  -- where nothing is done it is kept
+  pub part-kept : isDone how ≡ false → PartAfter made part how part
+  part-kept nothing = record { done = λ e. absurd (true≢false (sym e ∙ nothing)); kept = λ e. refl }
 
 -- one of the four variants before `Link` gives no handle
 pub last-stays : (last : ℕ) (h : Handling) → OneOf (0 ∷ 1 ∷ 2 ∷ 3 ∷ []) (tagOf the-type h) → last ≡ lastAfter last h
@@ -54,15 +56,15 @@ room-kept es kept w fits holds room =
 
 -- ## What a target allows, its parts may ask
 
-module _ (t : Target) (w : Walked) (h : Handling) (allowed : IfDone h (TargetAllows t w)) where
-  pub entries-asked : IfDone h (EntriesAllow (t .entries) w)
-  entries-asked = claim-follows (TargetAllows t w) _ (λ a. record { fits = a .fits .entries; left = a .walk .left; kept = a .kept }) h allowed
+module _ (t : Target) (w : Walked) (how : Handling) (allowed : IfDone how (TargetAllows t w)) where
+  pub entries-asked : IfDone how (EntriesAllow (t .entries) w)
+  entries-asked done = let a = allowed done in record { fits = a .fits .entries; left = a .walk .left; kept = a .kept }
 
-  pub unexpected-asked : IfDone h (UnexpectedFit (t .unexpected) × UnexpectedFit (w .left))
-  unexpected-asked = claim-follows (TargetAllows t w) _ (λ a. (a .fits .unexpected, a .walk .left)) h allowed
+  pub unexpected-asked : IfDone how (UnexpectedFit (t .unexpected) × UnexpectedFit (w .left))
+  unexpected-asked done = let a = allowed done in (a .fits .unexpected, a .walk .left)
 
-  pub queue-asked : IfDone h (QueueAllows (t .queue) w (t .entries))
-  queue-asked = claim-follows (TargetAllows t w) _ (λ a. record { fits = a .fits .queue; walk = a .walk; entries = a .fits .entries }) h allowed
+  pub queue-asked : IfDone how (QueueAllows (t .queue) w (t .entries))
+  queue-asked done = let a = allowed done in record { fits = a .fits .queue; walk = a .walk; entries = a .fits .entries }
 
-  pub counters-asked : IfDone h (UnexpectedFit (w .found))
-  counters-asked = claim-follows (TargetAllows t w) _ (λ a. a .walk .found) h allowed
+  pub counters-asked : IfDone how (UnexpectedFit (w .found))
+  counters-asked done = allowed done .walk .found

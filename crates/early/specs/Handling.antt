@@ -1,4 +1,5 @@
--- What an append or a search does with the headers that its walk found, and what that leaves of each part of the state.
+-- What an append or a search does with the headers that its walk found, and what that leaves of each part of the state. `Nothing` is a
+-- refused call: it is there for the code, and no promise reaches it.
 use mathlib.Core.Bool.{cond}
 use mathlib.Core.List.{List, [], _∷_, _++_, map}
 use Prim.Native.Nat.{ℕ}
@@ -43,7 +44,7 @@ headersAfter headers w Handling.Delete = w .left
 headersAfter headers w Handling.Take = w .left
 headersAfter headers w (Handling.Link handle) = w .left
 
--- "no handle is used" but by LINKED
+-- LINKED uses the next handle; on TAKEN "no handle is used", and a search gives none
 abbrev pub lastAfter : ℕ → Handling → ℕ
 lastAfter last Handling.Nothing = last
 lastAfter last Handling.Look = last
@@ -58,7 +59,8 @@ abbrev pub closingEvents : Entry → Walk Header → List Issued
 closingEvents e w = cond (foundOnce e w) [] (noMatchEvent e ∷ [])
 
 -- "Search: look gives SEARCH per fit, delete gives the overflow events as append does." "Append: per taken header ..; then LINK.",
--- but on TAKEN "no link or unlink event comes (reading)": decision 11
+-- but on TAKEN "no link or unlink event comes (reading)": decision 11. `entries`: those before, where AUTO_FREE's old entry still
+-- stands. Owner 0: the entry has no handle (decision 37)
 abbrev pub eventsIssued : List HeldEntry → Entry → Walk Header → Handling → List Issued
 eventsIssued entries e w Handling.Nothing = []
 eventsIssued entries e w Handling.Look = map (searchEvent e) (w .found) ++ closingEvents e w
@@ -83,13 +85,14 @@ countersAfter counters e w (Handling.Link handle) = overflowCounted counters e w
 
 -- ## All parts
 
+-- what the call leaves; size and registers never change
 unfoldable pub handled : View → Entry → Walk Header → Handling → View
-handled v e w h = record {
+handled v e w how = record {
   size = v .size;
-  last = lastAfter (v .last) h;
-  entries = entriesAfter (v .entries) e w h;
-  headers = headersAfter (v .headers) w h;
-  queue = postAll (v .queue) (eventsIssued (v .entries) e w h);
-  counters = countersAfter (v .counters) e w h;
+  last = lastAfter (v .last) how;
+  entries = entriesAfter (v .entries) e w how;
+  headers = headersAfter (v .headers) w how;
+  queue = postAll (v .queue) (eventsIssued (v .entries) e w how);
+  counters = countersAfter (v .counters) e w how;
   registers = v .registers;
 }

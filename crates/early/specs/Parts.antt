@@ -1,14 +1,15 @@
 -- What the functions of an append or a search require and ensure. No promise of a call cites these.
 use mathlib.Core.Path.{_≡_}
-use mathlib.Core.Bool.{Bool, true, _&&_}
-use Prim.Native.Nat.{ℕ, _<_}
-use lib.ListN.{getD}
+use mathlib.Core.Bool.{Bool, true, false, _&&_}
+use mathlib.Core.List.{List, _++_, map}
+use Prim.Native.Nat.{ℕ, _+_, _<_}
+use lib.ListN.{drop}
 use Rattle.matching.specs.declared.layout.Entry.{Entry}
-use Rattle.state.specs.Lists.{every}
+use Rattle.state.specs.Lists.{every, select}
 use Rattle.state.specs.Sizes.{SLOTS}
-use Rattle.state.specs.View.{isRetired, hasHandle, entriesOf, headersOf, queueOf, zeroHeader}
+use Rattle.state.specs.View.{isRetired, hasHandle, entriesOf, headersOf, queueOf}
 use Rattle.state.specs.Soundness.{keepsSlot}
-use Rattle.state.specs.Events.{postAll}
+use Rattle.state.specs.Events.{Issued, autoFreeEvent, postAll}
 use Rattle.state.specs.Parts.{EntriesFit, EntriesHold, UnexpectedFit, UnexpectedHold, QueueFits, QueueHolds, TargetFits}
 use Rattle.state.specs.declared.layout.HeldEntry.{HeldEntry}
 use Rattle.state.specs.declared.layout.Header.{Header}
@@ -26,10 +27,6 @@ use Rattle.early.specs.declared.handling.Handling.the-variants as Handli
 abbrev pub walkOf : Walked → Walk Header
 walkOf w = record { found = headersOf (w .found); left = headersOf (w .left) }
 
--- the header found at a place
-abbrev pub headerFound : Walked → ℕ → Header
-headerFound w i = getD (walkOf w .found) i zeroHeader
-
 pub record WalkFits (w : Walked) : Type 0 where
   pub found : UnexpectedFit (w .found)
   pub left : UnexpectedFit (w .left)
@@ -38,29 +35,37 @@ pub record WalkHolds (w : Walked) (v : Walk Header) : Type 0 where
   pub found : UnexpectedHold (w .found) (v .found)
   pub left : UnexpectedHold (w .left) (v .left)
 
--- ## The entries
+-- ## Handing out
 
--- the entry is retired, with this handle
-abbrev pub isRetiredAs : ℕ → HeldEntry → Bool
-isRetiredAs handle x = isRetired x && hasHandle handle x
+-- the headers that still wait when the one found at place i is handed out: those found later, and those left
+abbrev pub othersWaiting : Walked → ℕ → List Header
+othersWaiting w i = drop (i + 1) (walkOf w .found) ++ walkOf w .left
+
+-- the entry becomes free: it is retired, has this handle, and the last message in it is handed out
+abbrev pub isFreed : ℕ → Bool → HeldEntry → Bool
+isFreed handle last x = isRetired x && hasHandle handle x && last
+
+-- its AUTO_FREE
+abbrev pub freeEvents : ℕ → Bool → List HeldEntry → List Issued
+freeEvents handle last entries = map autoFreeEvent (select (isFreed handle last) entries)
 
 -- ## The parts
 
+abbrev pub isDone : Handling → Bool
+isDone Handling.Nothing = false
+isDone Handling.Look = true
+isDone Handling.Delete = true
+isDone Handling.Take = true
+isDone (Handling.Link handle) = true
+
 -- what is claimed where something is done
 abbrev pub IfDone : Handling → Type 0 → Type 0
-IfDone Handling.Nothing claim = Unit
-IfDone Handling.Look claim = claim
-IfDone Handling.Delete claim = claim
-IfDone Handling.Take claim = claim
-IfDone (Handling.Link handle) claim = claim
+IfDone how claim = isDone how ≡ true → claim
 
 -- a part of the state afterwards: the very same where nothing is done
-abbrev pub PartAfter : {S : Type 0} → (S → Type 0) → S → Handling → S → Type 0
-PartAfter made part Handling.Nothing part′ = part′ ≡ part
-PartAfter made part Handling.Look part′ = made part′
-PartAfter made part Handling.Delete part′ = made part′
-PartAfter made part Handling.Take part′ = made part′
-PartAfter made part (Handling.Link handle) part′ = made part′
+pub record PartAfter {S : Type 0} (made : S → Type 0) (part : S) (how : Handling) (part′ : S) : Type 0 where
+  pub done : isDone how ≡ true → made part′
+  pub kept : isDone how ≡ false → part′ ≡ part
 
 -- what an append that links asks: a slot is free
 abbrev pub RoomFor : Handling → Entries → Type 0
@@ -89,11 +94,11 @@ pub record TargetAllows (t : Target) (w : Walked) : Type 0 where
   pub kept : w .found .count ≡ 0 → every (keepsSlot (headersOf (w .left))) (entriesOf (t .entries)) ≡ true
 
 -- a target after an append or a search, part by part
-pub record TargetAfter (t : Target) (e : Entry) (w : Walked) (h : Handling) (t′ : Target) : Type 0 where
+pub record TargetAfter (t : Target) (e : Entry) (w : Walked) (how : Handling) (t′ : Target) : Type 0 where
   pub size : t′ .size ≡ t .size
-  pub last : t′ .last ≡ lastAfter (t .last) h
-  pub entries : PartAfter (λ es. EntriesHold es (entriesAfter (entriesOf (t .entries)) e (walkOf w) h)) (t .entries) h (t′ .entries)
-  pub unexpected : PartAfter (λ us. UnexpectedHold us (headersAfter (headersOf (t .unexpected)) (walkOf w) h)) (t .unexpected) h (t′ .unexpected)
-  pub queue : PartAfter (λ q. QueueHolds q (postAll (queueOf (t .queue)) (eventsIssued (entriesOf (t .entries)) e (walkOf w) h))) (t .queue) h (t′ .queue)
-  pub counters : PartAfter (λ cs. cs .slots ≡ countersAfter (t .counters .slots) e (walkOf w) h) (t .counters) h (t′ .counters)
+  pub last : t′ .last ≡ lastAfter (t .last) how
+  pub entries : PartAfter (λ es. EntriesHold es (entriesAfter (entriesOf (t .entries)) e (walkOf w) how)) (t .entries) how (t′ .entries)
+  pub unexpected : PartAfter (λ us. UnexpectedHold us (headersAfter (headersOf (t .unexpected)) (walkOf w) how)) (t .unexpected) how (t′ .unexpected)
+  pub queue : PartAfter (λ q. QueueHolds q (postAll (queueOf (t .queue)) (eventsIssued (entriesOf (t .entries)) e (walkOf w) how))) (t .queue) how (t′ .queue)
+  pub counters : PartAfter (λ cs. cs .slots ≡ countersAfter (t .counters .slots) e (walkOf w) how) (t .counters) how (t′ .counters)
   pub registers : t′ .registers ≡ t .registers

@@ -11,48 +11,46 @@ use state::layout::Queue;
 use state::layout::Unexpected;
 use state::unexpected;
 ghost use mathlib.Core.Path.{_≡_};
-ghost use mathlib.Core.List.{_++_, map};
-ghost use Prim.Native.Nat.{_+_, _<_};
-ghost use lib.ListN.{drop};
+ghost use Prim.Native.Nat.{_<_};
 ghost use Rattle.matching.specs.Counters.{overflowAmount};
 ghost use Rattle.state.specs.Lists.{any, select, sumOf};
 ghost use Rattle.state.specs.View.{entriesOf, headersOf, queueOf};
 ghost use Rattle.state.specs.Soundness.{names, keepsSlot};
-ghost use Rattle.state.specs.Events.{autoFreeEvent, postAll};
+ghost use Rattle.state.specs.Events.{postAll};
 ghost use Rattle.state.specs.Parts.{EntriesFit, EntriesHold, UnexpectedFit, QueueFits, QueueHolds};
-ghost use Rattle.early.specs.HandOut.{handOutEvent, handOutEvents};
+ghost use Rattle.early.specs.HandOut.{handOutEvents};
 ghost use Rattle.early.specs.Handling.{entriesKept};
-ghost use Rattle.early.specs.Parts.{walkOf, headerFound, WalkFits, isRetiredAs, EntriesAllow};
+ghost use Rattle.early.specs.Parts.{walkOf, WalkFits, othersWaiting, isFreed, freeEvents, EntriesAllow, QueueAllows};
 
-// A message that was found later than the one at a place, or is left, waits in the entry with this handle.
+// A message that still waits when the one found at a place is handed out waits in the entry with this handle.
 fn still_waits(w: Walked, i: usize, handle: u32) -> bool
     requires { ⌜ WalkFits w ⌝ }
     requires { ⌜ i < w .found .count ⌝ }
-    ensures { λ r. ⌜ r ≡ any (names handle) (drop (i + 1) (walkOf w .found) ++ walkOf w .left) ⌝ }
+    ensures { λ r. ⌜ r ≡ any (names handle) (othersWaiting w i) ⌝ }
 {
     let later = unexpected::names_from(w.found, i + 1, handle);
     let left = unexpected::names_from(w.left, 0, handle);
     later | left
 }
 
-// The entry is retired, with this handle.
-fn is_retired_as(x: HeldEntry, handle: u32) -> bool
-    ensures { λ r. ⌜ r ≡ isRetiredAs handle x ⌝ }
+// The entry becomes free: it is retired, has this handle, and the last message in it is handed out.
+fn is_freed(x: HeldEntry, handle: u32, last: bool) -> bool
+    ensures { λ r. ⌜ r ≡ isFreed handle last x ⌝ }
 {
-    (x.retired != 0) & (x.handle == handle)
+    (x.retired != 0) & (x.handle == handle) & last
 }
 
-// AUTO_FREE of the retired entry with this handle.
-fn queue_freed(mut q: Queue, es: Entries, handle: u32) -> Queue
+// AUTO_FREE of the retired entry with this handle, if the last message in it is handed out.
+fn queue_freed(mut q: Queue, es: Entries, handle: u32, last: bool) -> Queue
     requires { ⌜ QueueFits q ⌝ }
     requires { ⌜ EntriesFit es ⌝ }
-    ensures { λ r. ⌜ QueueHolds r (postAll (queueOf q) (map autoFreeEvent (select (isRetiredAs handle) (entriesOf es)))) ⌝ }
+    ensures { λ r. ⌜ QueueHolds r (postAll (queueOf q) (freeEvents handle last (entriesOf es))) ⌝ }
 {
     let mut i: usize = 0;
     while i < es.count {
         let x = es.slots[i];
         i += 1;
-        if is_retired_as(x, handle) {
+        if is_freed(x, handle, last) {
             let freed = events::auto_free_event(x);
             q = event_queue::posted(q, freed, x.entry.options);
         }
@@ -60,34 +58,19 @@ fn queue_freed(mut q: Queue, es: Entries, handle: u32) -> Queue
     q
 }
 
-// The header found at a place is handed out: its overflow event, and AUTO_FREE if it was a retired entry's last.
-fn queue_with(q: Queue, w: Walked, i: usize, e: Entry, owner: u32, es: Entries) -> Queue
-    requires { ⌜ QueueFits q ⌝ }
-    requires { ⌜ WalkFits w ⌝ }
-    requires { ⌜ i < w .found .count ⌝ }
-    requires { ⌜ EntriesFit es ⌝ }
-    ensures { λ r. ⌜ QueueHolds r (postAll (queueOf q) (handOutEvent e owner (entriesOf es) (headerFound w i) (drop (i + 1) (walkOf w .found) ++ walkOf w .left))) ⌝ }
-{
-    let found = w.found;
-    let h = found.slots[i];
-    let event = events::overflow_event(h, e, owner);
-    let next = event_queue::posted(q, event, e.options);
-    if still_waits(w, i, h.handle) {
-        return next;
-    }
-    queue_freed(next, es, h.handle)
-}
-
-// Every header found is handed out, oldest first.
+// Every header found is handed out, oldest first: its overflow event, and AUTO_FREE if it was a retired entry's last.
 pub fn queue_handed_out(mut q: Queue, w: Walked, e: Entry, owner: u32, es: Entries) -> Queue
-    requires { ⌜ QueueFits q ⌝ }
-    requires { ⌜ WalkFits w ⌝ }
-    requires { ⌜ EntriesFit es ⌝ }
+    requires { ⌜ QueueAllows q w es ⌝ }
     ensures { λ r. ⌜ QueueHolds r (postAll (queueOf q) (handOutEvents e owner (entriesOf es) (walkOf w .left) (walkOf w .found))) ⌝ }
 {
+    let found = w.found;
     let mut i: usize = 0;
-    while i < w.found.count {
-        q = queue_with(q, w, i, e, owner, es);
+    while i < found.count {
+        let h = found.slots[i];
+        let event = events::overflow_event(h, e, owner);
+        q = event_queue::posted(q, event, e.options);
+        let last = !still_waits(w, i, h.handle);
+        q = queue_freed(q, es, h.handle, last);
         i += 1;
     }
     q
@@ -102,7 +85,7 @@ fn keeps_slot(x: HeldEntry, left: Unexpected) -> bool
 }
 
 // The entries that keep their slot.
-fn slots_kept(es: Entries, left: Unexpected) -> Entries
+fn without_freed(es: Entries, left: Unexpected) -> Entries
     requires { ⌜ EntriesFit es ⌝ }
     requires { ⌜ UnexpectedFit left ⌝ }
     ensures { λ r. ⌜ EntriesHold r (select (keepsSlot (headersOf left)) (entriesOf es)) ⌝ }
@@ -128,7 +111,7 @@ pub fn entries_kept(es: Entries, w: Walked) -> Entries
     if w.found.count == 0 {
         return es;
     }
-    slots_kept(es, w.left)
+    without_freed(es, w.left)
 }
 
 // CT_OVERFLOW: by how much an append with these options counts what it takes.

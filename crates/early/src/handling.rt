@@ -19,18 +19,19 @@ ghost use Prim.Native.Nat.{_<_};
 ghost use Rattle.state.specs.Sizes.{SLOTS};
 ghost use Rattle.state.specs.View.{entriesOf, headersOf, queueOf};
 ghost use Rattle.state.specs.Events.{searchEvent, postAll};
-ghost use Rattle.state.specs.Parts.{EntriesFit, EntriesHold, UnexpectedFit, UnexpectedHold, QueueFits, QueueHolds};
+ghost use Rattle.state.specs.Parts.{EntriesHold, UnexpectedFit, UnexpectedHold, QueueFits, QueueHolds};
 ghost use Rattle.early.specs.Handling.{newEntry, closingEvents, entriesAfter, headersAfter, eventsIssued, overflowCounted, countersAfter, lastAfter};
 ghost use Rattle.early.specs.Parts.{walkOf, WalkFits, IfDone, PartAfter, RoomFor, EntriesAllow, QueueAllows, TargetAllows, TargetAfter};
 ghost use Rattle.early.specs.declared.handling.Handling.the-variants as Handling;
 
+// What a call does with the headers that its walk found.
 pub enum Handling {
     // The call is refused: nothing is done.
     Nothing,
-    // A search that looks, and one that deletes.
+    // A search: PTL_SEARCH_ONLY, PTL_SEARCH_DELETE.
     Look,
     Delete,
-    // An append that is answered TAKEN, and one that is LINKED with this handle.
+    // An append: TAKEN, LINKED with this handle.
     Take,
     Link(u32),
 }
@@ -59,12 +60,12 @@ fn entries_linked(es: Entries, w: Walked, e: Entry, handle: u32) -> Entries
 }
 
 // The entries afterwards.
-pub fn entries_after(es: Entries, h: Handling, w: Walked, e: Entry) -> Entries
-    requires { ⌜ IfDone h (EntriesAllow es w) ⌝ }
-    requires { ⌜ RoomFor h es ⌝ }
-    ensures { λ r. ⌜ PartAfter (λ after. EntriesHold after (entriesAfter (entriesOf es) e (walkOf w) h)) es h r ⌝ }
+fn entries_after(es: Entries, how: Handling, w: Walked, e: Entry) -> Entries
+    requires { ⌜ IfDone how (EntriesAllow es w) ⌝ }
+    requires { ⌜ RoomFor how es ⌝ }
+    ensures { λ r. ⌜ PartAfter (λ after. EntriesHold after (entriesAfter (entriesOf es) e (walkOf w) how)) es how r ⌝ }
 {
-    match h {
+    match how {
         Handling::Nothing => es,
         Handling::Look => es,
         Handling::Delete => hand_out::entries_kept(es, w),
@@ -74,11 +75,11 @@ pub fn entries_after(es: Entries, h: Handling, w: Walked, e: Entry) -> Entries
 }
 
 // The unexpected headers afterwards.
-pub fn unexpected_after(us: Unexpected, h: Handling, w: Walked) -> Unexpected
-    requires { ⌜ IfDone h (UnexpectedFit us × UnexpectedFit (w .left)) ⌝ }
-    ensures { λ r. ⌜ PartAfter (λ after. UnexpectedHold after (headersAfter (headersOf us) (walkOf w) h)) us h r ⌝ }
+fn unexpected_after(us: Unexpected, how: Handling, w: Walked) -> Unexpected
+    requires { ⌜ IfDone how (UnexpectedFit us × UnexpectedFit (w .left)) ⌝ }
+    ensures { λ r. ⌜ PartAfter (λ after. UnexpectedHold after (headersAfter (headersOf us) (walkOf w) how)) us how r ⌝ }
 {
-    match h {
+    match how {
         Handling::Nothing => us,
         Handling::Look => us,
         Handling::Delete => w.left,
@@ -88,10 +89,10 @@ pub fn unexpected_after(us: Unexpected, h: Handling, w: Walked) -> Unexpected
 }
 
 // The last handle given, afterwards.
-pub fn last_after(last: u32, h: Handling) -> u32
-    ensures { λ r. ⌜ r ≡ lastAfter last h ⌝ }
+fn last_after(last: u32, how: Handling) -> u32
+    ensures { λ r. ⌜ r ≡ lastAfter last how ⌝ }
 {
-    match h {
+    match how {
         Handling::Link(handle) => handle,
         _ => last,
     }
@@ -155,11 +156,11 @@ fn queue_linked(q: Queue, w: Walked, e: Entry, es: Entries, handle: u32) -> Queu
 }
 
 // The event queue afterwards; the entries are those before.
-pub fn queue_after(q: Queue, h: Handling, w: Walked, e: Entry, es: Entries) -> Queue
-    requires { ⌜ IfDone h (QueueAllows q w es) ⌝ }
-    ensures { λ r. ⌜ PartAfter (λ after. QueueHolds after (postAll (queueOf q) (eventsIssued (entriesOf es) e (walkOf w) h))) q h r ⌝ }
+fn queue_after(q: Queue, how: Handling, w: Walked, e: Entry, es: Entries) -> Queue
+    requires { ⌜ IfDone how (QueueAllows q w es) ⌝ }
+    ensures { λ r. ⌜ PartAfter (λ after. QueueHolds after (postAll (queueOf q) (eventsIssued (entriesOf es) e (walkOf w) how))) q how r ⌝ }
 {
-    match h {
+    match how {
         Handling::Nothing => q,
         Handling::Look => queue_looked(q, w, e, es),
         Handling::Delete => queue_deleted(q, w, e, es),
@@ -178,11 +179,11 @@ fn counters_taken(cs: Counters, w: Walked, e: Entry) -> Counters
 }
 
 // The counters afterwards.
-pub fn counters_after(cs: Counters, h: Handling, w: Walked, e: Entry) -> Counters
-    requires { ⌜ IfDone h (UnexpectedFit (w .found)) ⌝ }
-    ensures { λ r. ⌜ PartAfter (λ after. after .slots ≡ countersAfter (cs .slots) e (walkOf w) h) cs h r ⌝ }
+fn counters_after(cs: Counters, how: Handling, w: Walked, e: Entry) -> Counters
+    requires { ⌜ IfDone how (UnexpectedFit (w .found)) ⌝ }
+    ensures { λ r. ⌜ PartAfter (λ after. after .slots ≡ countersAfter (cs .slots) e (walkOf w) how) cs how r ⌝ }
 {
-    match h {
+    match how {
         Handling::Nothing => cs,
         Handling::Look => cs,
         Handling::Delete => cs,
@@ -192,16 +193,16 @@ pub fn counters_after(cs: Counters, h: Handling, w: Walked, e: Entry) -> Counter
 }
 
 // The target afterwards, part by part.
-pub fn target_after(t: Target, h: Handling, w: Walked, e: Entry) -> Target
-    requires { ⌜ IfDone h (TargetAllows t w) ⌝ }
-    requires { ⌜ RoomFor h (t .entries) ⌝ }
-    ensures { λ r. ⌜ TargetAfter t e w h r ⌝ }
+pub fn target_after(t: Target, how: Handling, w: Walked, e: Entry) -> Target
+    requires { ⌜ IfDone how (TargetAllows t w) ⌝ }
+    requires { ⌜ RoomFor how (t .entries) ⌝ }
+    ensures { λ r. ⌜ TargetAfter t e w how r ⌝ }
 {
-    let last = last_after(t.last, h);
-    let entries = entries_after(t.entries, h, w, e);
-    let unexpected = unexpected_after(t.unexpected, h, w);
-    let queue = queue_after(t.queue, h, w, e, t.entries);
-    let counters = counters_after(t.counters, h, w, e);
+    let last = last_after(t.last, how);
+    let entries = entries_after(t.entries, how, w, e);
+    let unexpected = unexpected_after(t.unexpected, how, w);
+    let queue = queue_after(t.queue, how, w, e, t.entries);
+    let counters = counters_after(t.counters, how, w, e);
     let registers = t.registers;
     Target {
         size: t.size,

@@ -52,7 +52,7 @@ fn uses_once(e: Entry) -> bool
     entry::is_set(e.options, entry::USE_ONCE)
 }
 
-// No headers, in an array of the same size.
+// No headers, in an array as long.
 fn emptied(mut us: Unexpected) -> Unexpected
     ensures { λ r. ⌜ r ≡ record { slots = us .slots; count = 0 } ⌝ }
 {
@@ -61,7 +61,7 @@ fn emptied(mut us: Unexpected) -> Unexpected
 }
 
 // The walk: all that fit are found, or under USE_ONCE the first of them; the others are left.
-fn walk_all(us: Unexpected, e: Entry) -> Walked
+fn walk_for(us: Unexpected, e: Entry) -> Walked
     requires { ⌜ UnexpectedFit us ⌝ }
     ensures { λ r. ⌜ WalkHolds r (walkFor e (headersOf us)) ⌝ }
 {
@@ -84,13 +84,13 @@ fn walk_all(us: Unexpected, e: Entry) -> Walked
     Walked { found, left }
 }
 
-// The walk of a call that walks; one that does not finds none, and leaves the very same.
-pub fn walk_over(us: Unexpected, walks: bool, e: Entry) -> Walked
+// The walk of a call that walks; one that does not finds none and leaves all.
+pub fn walk_if(us: Unexpected, walks: bool, e: Entry) -> Walked
     requires { ⌜ ((walks ≡ true) → UnexpectedFit us) ⌝ }
     ensures { λ r. ⌜ (UnexpectedFit us → WalkHolds r (walkIf walks e (headersOf us))) ⌝ }
 {
     if walks {
-        walk_all(us, e)
+        walk_for(us, e)
     } else {
         Walked {
             found: emptied(us),

@@ -31,7 +31,7 @@ append-by-sound : (taken : Bool) (v : View) (e : Entry) (w : Walk Header) → So
     → Sound (appendBy taken v e w .state)
 append-by-sound true v e w s p room good = handled-sound v e w s p Handling.Take tt
 append-by-sound false v e w s p room good =
-    handled-sound v e w s p (Handling.Link (nextHandle v)) (record { above = omega arith; room = room; good = good })
+    handled-sound v e w s p (Handling.Link (nextHandle (v .last))) (record { above = omega arith; room = room; good = good })
 
 pub append-sound : (v : View) (e : Entry) → Sound v → Sound (append v e .state)
 unfolding append

@@ -1,9 +1,9 @@
 -- How append and search keep their promises: where the walk is the rules', and the target is left as what was done with the headers
 -- found says.
 use mathlib.Core.Path.{_≡_, refl, ap, sym, _∙_, subst}
-use mathlib.Core.Bool.{Bool, true, false, _&&_, cond}
+use mathlib.Core.Bool.{Bool, true, false, _&&_, false≢true}
 use mathlib.Core.List.{List, [], _∷_}
-use Prim.Native.Nat.{ℕ, _+_, _<_}
+use Prim.Native.Nat.{ℕ, _<_}
 use native.Mathlib.Omega.{arith}
 use borrow.Author.Tests.{ltb-true}
 use lib.Dec.{eqb, ltb}
@@ -21,23 +21,23 @@ use Rattle.state.proofs.ListLaws.{both, cond-cases}
 use Rattle.state.proofs.SlotLaws.{in-use, held-count}
 use Rattle.early.specs.Walk.{Walk, walkFor, walkIf, foundOnce}
 use Rattle.early.specs.Handling.{handled}
-use Rattle.early.specs.Parts.{walkOf, WalkHolds, IfDone, RoomFor, TargetAllows, TargetAfter}
+use Rattle.early.specs.Parts.{walkOf, WalkHolds, isDone, IfDone, RoomFor, TargetAllows, TargetAfter}
 use Rattle.early.specs.declared.walk.Walked.{Walked}
 use Rattle.early.specs.declared.handling.Handling.{Handling}
 use Rattle.early.specs.declared.handling.Handling.the-variants as Handling
 use Rattle.early.proofs.AfterLaws.{walk-view, walk-allows, after-view, after-same, after-fits}
 use Rattle.portals.specs.Refusals.{Condition, goodArguments}
-use Rattle.portals.specs.Admission.{admission, byAdmission, isAdmitted, Admits}
+use Rattle.portals.specs.Admission.{byAdmission, isAdmitted, Admits}
 use Rattle.portals.specs.Answers.{Answer, SEARCHED, isRefused, refused, appendAnswer, searchAnswer}
 use Rattle.portals.specs.Outcome.{Outcome}
-use Rattle.portals.specs.EarlyMessages.{takenBy, appendBy, appended, hasSpace, appendTests, append, searchHandling, searched, searchTests, search, appendAnswered, appendHandling}
+use Rattle.portals.specs.EarlyMessages.{takenBy, nextHandle, appendBy, appended, hasSpace, appendTests, append, searchHandling, searched, searchTests, search, takenOrLinked, appendAnswered, appendHandling}
 use Rattle.portals.specs.Promises.{AppendMet, SearchMet}
 use Rattle.portals.specs.declared.admission.Admission.{Admission}
 use Rattle.portals.specs.declared.admission.Admission.the-variants as Admission
 use Rattle.portals.specs.declared.answers.AppendAnswer.the-variants as Append
 use Rattle.portals.specs.declared.answers.AppendDone.{AppendDone}
 use Rattle.portals.specs.declared.answers.SearchDone.{SearchDone}
-use Rattle.portals.proofs.AdmitLaws.{admitted-is, admitted-sound, admitted-passed}
+use Rattle.portals.proofs.AdmitLaws.{admitted-is, admitted-sound, admitted-passed, admits-for}
 use Rattle.portals.proofs.EarlyKept.{append-sound, search-sound}
 use Rattle.portals.proofs.MetLaws.{fits-counts, Done, Unchanged, Ending, met}
 
@@ -45,20 +45,20 @@ use Rattle.portals.proofs.MetLaws.{fits-counts, Done, Unchanged, Ending
 
 module _ (t t′ : Target) (e : Entry) (w : Walked) where
   -- an admitted call did what it was to do with the headers found
-  handled-done : (v : Walk Header) (h : Handling) (does : Outcome View Unit) (answer : Answer)
+  handled-done : (v : Walk Header) (how : Handling) (does : Outcome View Unit) (answer : Answer)
+      → isDone how ≡ true
       → WalkHolds w v
-      → TargetFits t
-      → TargetAfter t e w h t′
+      → TargetAfter t e w how t′
       → answer ≡ does .answer
       → isRefused (does .answer) ≡ false
-      → does .state ≡ handled (viewOf t) e v h
+      → does .state ≡ handled (viewOf t) e v how
       → Done does t′ tt answer
-  handled-done v h does answer walks fits after answers granted is = record {
+  handled-done v how does answer done walks after answers granted is = record {
     answers = answers;
     granted = granted;
-    state = after-view t t′ e w h after ∙ ap (λ (u : Walk Header). handled (viewOf t) e u h) (walk-view w v walks) ∙ sym is;
+    state = after-view t t′ e w how done after ∙ ap (λ (u : Walk Header). handled (viewOf t) e u how) (walk-view w v walks) ∙ sym is;
     buffer = refl;
-    counts = fits-counts t′ (after-fits t t′ e w h fits after);
+    counts = fits-counts t′ (after-fits t t′ e w how done after);
   }
 
   -- a refused one did nothing
@@ -91,40 +91,40 @@ module _ (t : Target) (e : Entry) (a : Admission) (admits : Admits (λ v. append
       omega arith
 
 -- by whether it was TAKEN
-module _ (t t′ : Target) (e : Entry) (w : Walked) (v : Walk Header) (walks : WalkHolds w v) (fits : TargetFits t) where
+module _ (t t′ : Target) (e : Entry) (w : Walked) (v : Walk Header) (walks : WalkHolds w v) where
   append-by-done : (taken : Bool)
-      → TargetAfter t e w (appendHandling (cond taken Append.Taken (Append.Linked (t .last + 1)))) t′
-      → Done (appendBy taken (viewOf t) e v) t′ tt (appendAnswer (cond taken Append.Taken (Append.Linked (t .last + 1))))
-  append-by-done true after = handled-done t t′ e w v Handling.Take _ _ walks fits after refl refl refl
-  append-by-done false after = handled-done t t′ e w v (Handling.Link (t .last + 1)) _ _ walks fits after refl refl refl
+      → TargetAfter t e w (appendHandling (takenOrLinked taken (t .last))) t′
+      → Done (appendBy taken (viewOf t) e v) t′ tt (appendAnswer (takenOrLinked taken (t .last)))
+  append-by-done true after = handled-done t t′ e w v Handling.Take _ _ refl walks after refl refl refl
+  append-by-done false after = handled-done t t′ e w v (Handling.Link (nextHandle (t .last))) _ _ refl walks after refl refl refl
 
   append-done : (taken : Bool)
       → taken ≡ foundOnce e (walkOf w)
-      → TargetAfter t e w (appendHandling (cond taken Append.Taken (Append.Linked (t .last + 1)))) t′
-      → Done (appended (viewOf t) e v) t′ tt (appendAnswer (cond taken Append.Taken (Append.Linked (t .last + 1))))
+      → TargetAfter t e w (appendHandling (takenOrLinked taken (t .last))) t′
+      → Done (appended (viewOf t) e v) t′ tt (appendAnswer (takenOrLinked taken (t .last)))
   append-done taken is after =
       let found : taken ≡ foundOnce e v = is ∙ ap (foundOnce e) (walk-view w v walks) in
       rw (← found) (append-by-done taken after)
 
 module _ (t : Target) (e : Entry) (w : Walked) (walks taken : Bool) where
   -- what an append asks of the target: nothing where it is refused
-  pub append-asked : (a : Admission) (h : Handling)
+  pub append-asked : (a : Admission) (how : Handling)
       → Admits (λ v. appendTests v e) t a
       → (UnexpectedFit (t .unexpected) → WalkHolds w (walkIf walks e (headersOf (t .unexpected))))
-      → h ≡ appendHandling (appendAnswered a taken (t .last))
-      → IfDone h (TargetAllows t w) × RoomFor h (t .entries)
-  append-asked (Admission.Refused r) h admits holds is = rw is (tt, tt)
-  append-asked Admission.Admitted h admits holds is =
+      → how ≡ appendHandling (appendAnswered a taken (t .last))
+      → IfDone how (TargetAllows t w) × RoomFor how (t .entries)
+  append-asked (Admission.Refused r) how admits holds is = rw is (λ done. absurd (false≢true done), tt)
+  append-asked Admission.Admitted how admits holds is =
       let fits = admits .fits refl in
       let sound = admitted-sound (λ v. appendTests v e) t (sym (admits .answer)) in
       let allows = walk-allows t walks e w sound fits (holds (fits .unexpected)) in
       rw is (by taken allows (slot-left t e Admission.Admitted admits refl))
     where
       by : (b : Bool) → TargetAllows t w → t .entries .count < SLOTS
-          → IfDone (appendHandling (cond b Append.Taken (Append.Linked (t .last + 1)))) (TargetAllows t w)
-          × RoomFor (appendHandling (cond b Append.Taken (Append.Linked (t .last + 1)))) (t .entries)
-      by true allows room = (allows, tt)
-      by false allows room = (allows, room)
+          → IfDone (appendHandling (takenOrLinked b (t .last))) (TargetAllows t w)
+          × RoomFor (appendHandling (takenOrLinked b (t .last))) (t .entries)
+      by true allows room = (λ done. allows, tt)
+      by false allows room = (λ done. allows, room)
 
   append-ending : (t′ : Target) (a : Admission) (admitted : Bool)
       → Admits (λ v. appendTests v e) t a
@@ -139,20 +139,20 @@ module _ (t : Target) (e : Entry) (w : Walked) (walks taken : Bool) where
       let fits = admits .fits refl in
       let priority : walks ≡ eqb (e .list) 0 = so ∙ rw is in
       let walked = rw priority at (holds (fits .unexpected)) in
-      append-done t t′ e w (takenBy e (headersOf (t .unexpected))) walked fits taken (found (walked .found .fits)) after
+      append-done t t′ e w (takenBy e (headersOf (t .unexpected))) walked taken (found (walked .found .fits)) after
 
-pub append-met : (t : Target) (e : Entry) (r : AppendDone) (a : Admission) (w : Walked) (admitted walks taken : Bool) (h : Handling)
+pub append-met : (t : Target) (e : Entry) (r : AppendDone) (a : Admission) (w : Walked) (admitted walks taken : Bool) (how : Handling)
     → Admits (λ v. appendTests v e) t a
     → admitted ≡ isAdmitted a
     → walks ≡ (admitted && eqb (e .list) 0)
     → (UnexpectedFit (t .unexpected) → WalkHolds w (walkIf walks e (headersOf (t .unexpected))))
     → (UnexpectedFit (w .found) → taken ≡ foundOnce e (walkOf w))
     → r .answer ≡ appendAnswered a taken (t .last)
-    → h ≡ appendHandling (r .answer)
-    → TargetAfter t e w h (r .target)
+    → how ≡ appendHandling (r .answer)
+    → TargetAfter t e w how (r .target)
     → AppendMet t e r
 unfolding append
-append-met t e r a w admitted walks taken h admits is so holds found answers handles after =
+append-met t e r a w admitted walks taken how admits is so holds found answers handles after =
     let left = subst (λ (b : Handling). TargetAfter t e w b (r .target)) (handles ∙ ap appendHandling answers) after in
     met (λ v. append v e) (λ v. appended v e (takenBy e (v .headers))) (λ v. appendTests v e) tt (λ v. refl) (λ v. append-sound v e)
     t (r .target) tt (appendAnswer (r .answer)) a (admits .answer)
@@ -160,22 +160,25 @@ append-met t e r a w admitted walks taken h admits is so holds found answers han
 
 -- ## Search
 
+search-done : (mode : ℕ) → isDone (searchHandling mode) ≡ true
+search-done mode = cond-cases (λ (how : Handling). isDone how ≡ true) (eqb mode 0) Handling.Look Handling.Delete (λ look. refl) (λ delete. refl)
+
 module _ (t : Target) (e : Entry) (w : Walked) (walks : Bool) (found : BadArgument) where
   -- what a search asks of the target: nothing where it is refused
-  pub search-asked : (a : Admission) (h : Handling)
+  pub search-asked : (a : Admission) (how : Handling)
       → Admits (λ v. goodArguments found ∷ []) t a
       → (UnexpectedFit (t .unexpected) → WalkHolds w (walkIf walks e (headersOf (t .unexpected))))
-      → h ≡ byAdmission (λ r. Handling.Nothing) (searchHandling (e .list)) a
-      → IfDone h (TargetAllows t w) × RoomFor h (t .entries)
-  search-asked (Admission.Refused r) h admits holds is = rw is (tt, tt)
-  search-asked Admission.Admitted h admits holds is =
+      → how ≡ byAdmission (λ r. Handling.Nothing) (searchHandling (e .list)) a
+      → IfDone how (TargetAllows t w) × RoomFor how (t .entries)
+  search-asked (Admission.Refused r) how admits holds is = rw is (λ done. absurd (false≢true done), tt)
+  search-asked Admission.Admitted how admits holds is =
       let fits = admits .fits refl in
       let sound = admitted-sound (λ v. goodArguments found ∷ []) t (sym (admits .answer)) in
       let allows = walk-allows t walks e w sound fits (holds (fits .unexpected)) in
       rw is
       (cond-cases (λ (b : Handling). IfDone b (TargetAllows t w) × RoomFor b (t .entries)) (eqb (e .list) 0) Handling.Look Handling.Delete
-      (λ look. (allows, tt))
-      (λ delete. (allows, tt)))
+      (λ look. (λ done. allows, tt))
+      (λ delete. (λ done. allows, tt)))
 
   search-ending : (t′ : Target) (a : Admission)
       → Admits (λ v. goodArguments found ∷ []) t a
@@ -187,21 +190,21 @@ module _ (t : Target) (e : Entry) (w : Walked) (walks : Bool) (found : BadArgume
   search-ending t′ Admission.Admitted admits is holds after =
       let fits = admits .fits refl in
       let walked = rw is at (holds (fits .unexpected)) in
-      handled-done t t′ e w (walkFor e (headersOf (t .unexpected))) (searchHandling (e .list)) _ _ walked fits after
+      handled-done t t′ e w (walkFor e (headersOf (t .unexpected))) (searchHandling (e .list)) _ _ (search-done (e .list)) walked after
       (ap SEARCHED (held-count (walked .found))) refl refl
 
-pub search-met : (t : Target) (e : Entry) (r : SearchDone) (found : BadArgument) (a : Admission) (w : Walked) (walks : Bool) (h : Handling)
+pub search-met : (t : Target) (e : Entry) (r : SearchDone) (found : BadArgument) (a : Admission) (w : Walked) (walks : Bool) (how : Handling)
     → found ≡ badEntryArgument e (t .size)
     → Admits (λ v. goodArguments found ∷ []) t a
     → walks ≡ isAdmitted a
     → (UnexpectedFit (t .unexpected) → WalkHolds w (walkIf walks e (headersOf (t .unexpected))))
     → searchAnswer (r .answer) ≡ byAdmission refused (SEARCHED (w .found .count)) a
-    → h ≡ byAdmission (λ r. Handling.Nothing) (searchHandling (e .list)) a
-    → TargetAfter t e w h (r .target)
+    → how ≡ byAdmission (λ r. Handling.Nothing) (searchHandling (e .list)) a
+    → TargetAfter t e w how (r .target)
     → SearchMet t e r
 unfolding search
-search-met t e r found a w walks h is-bad admits is holds answers handles after =
+search-met t e r found a w walks how is-bad admits is holds answers handles after =
     let left = subst (λ (b : Handling). TargetAfter t e w b (r .target)) handles after in
     met (λ v. search v e) (λ v. searched v e (walkFor e (v .headers))) (λ v. searchTests v e) tt (λ v. refl) (λ v. search-sound v e)
-    t (r .target) tt (searchAnswer (r .answer)) a (admits .answer ∙ ap (λ (b : BadArgument). admission (λ v. goodArguments b ∷ []) t) is-bad)
+    t (r .target) tt (searchAnswer (r .answer)) a (admits-for found (badEntryArgument e (t .size)) t a is-bad admits)
     (rw answers (search-ending t e w walks found (r .target) a admits is holds left))

@@ -33,7 +33,7 @@ use Rattle.portals.specs.Outcome.{Outcome, guarded}
 use Rattle.portals.specs.Making.{badSetting, notMade, new}
 use Rattle.portals.specs.EventRead.{oldestOf, eventTaken, readEvent}
 use Rattle.portals.specs.CounterCalls.{badCounterArgument, counterTests, counterDone, setCounter, increment, readCounter, badRegisterArgument, readRegister}
-use Rattle.portals.specs.EarlyMessages.{unlinkTests, unlink, EntriesUnlinked}
+use Rattle.portals.specs.EarlyMessages.{unlinkTests, unlinked, unlink, EntriesUnlinked}
 use Rattle.portals.specs.Promises.{Met, ReadMet, NewMet}
 use Rattle.portals.specs.declared.answers.NewDone.{NewDone}
 use Rattle.portals.specs.declared.admission.Admission.{Admission}
@@ -200,10 +200,6 @@ entriesLeft t entries = record {
   registers = t .registers;
 }
 
--- what it does where it is admitted
-abbrev unlinkDone : View → ℕ → Outcome View Unit
-unlinkDone v handle = record { answer = DONE; state = withEntries v (withoutFirst (isLinkedAs handle) (v .entries)); buffer = tt }
-
 module _ (es : Entries) (unlinks : Bool) (handle : ℕ) where
   -- nothing is unlinked
   pub unlinked-none : not unlinks ≡ true → EntriesUnlinked es unlinks handle es
@@ -227,7 +223,7 @@ entries-ending : (t : Target) (handle : ℕ) (entries : Entries) (answer : Answe
     → (a ≡ Admission.Admitted → TargetFits t)
     → answer ≡ byAdmission refused DONE a
     → EntriesUnlinked (t .entries) (isAdmitted a) handle entries
-    → Ending (unlinkDone (viewOf t) handle) t tt (entriesLeft t entries) tt answer a
+    → Ending (unlinked (viewOf t) handle) t tt (entriesLeft t entries) tt answer a
 entries-ending t handle entries answer Admission.Admitted fits e u =
     let f = fits refl in
     let h = u .without refl in
@@ -252,7 +248,7 @@ pub unlink-met : (t : Target) (handle : ℕ) (entries : Entries) (answer : Answe
     → Met (λ v. unlink v handle) t tt answer (entriesLeft t entries) tt
 unfolding unlink
 unlink-met t handle entries answer a unlinks admits e is u =
-    met (λ v. unlink v handle) (λ v. unlinkDone v handle) (λ v. unlinkTests v handle) tt (λ v. refl) (λ v. unlink-sound v handle)
+    met (λ v. unlink v handle) (λ v. unlinked v handle) (λ v. unlinkTests v handle) tt (λ v. refl) (λ v. unlink-sound v handle)
     t (entriesLeft t entries) tt answer a (admits .answer)
     (entries-ending t handle entries answer a (admits .fits) e (subst (λ (b : Bool). EntriesUnlinked (t .entries) b handle entries) is u))
 

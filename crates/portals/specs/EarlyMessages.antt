@@ -32,20 +32,21 @@ use Rattle.portals.specs.declared.answers.AppendAnswer.the-variants as A
 
 -- ## Append
 
--- "An append to the priority list first walks ..": "Appending to overflow just links."
+-- "An append to the priority list first walks the portal's waiting headers". "Appending to overflow just links."
 abbrev pub takenBy : Entry → List Header → Walk Header
 takenBy e headers = walkIf (eqb (e .list) 0) e headers
 
 -- "Handles count up from 1 .., never twice."
-abbrev pub nextHandle : View → ℕ
-nextHandle v = v .last + 1
+abbrev pub nextHandle : ℕ → ℕ
+nextHandle last = last + 1
 
 -- "USE_ONCE with a fit: the first is taken, nothing is linked, the answer is TAKEN, no handle is used and no link or unlink event
 -- comes (reading).": decision 11. "Otherwise all that fit are taken and the entry is linked ..: LINKED with handle."
+-- By whether USE_ONCE has a fit.
 abbrev pub appendBy : Bool → View → Entry → Walk Header → Outcome View Unit
 appendBy true v e w = record { answer = TAKEN; state = handled v e w Handling.Take; buffer = tt }
 appendBy false v e w =
-    record { answer = LINKED (nextHandle v); state = handled v e w (Handling.Link (nextHandle v)); buffer = tt }
+    record { answer = LINKED (nextHandle (v .last)); state = handled v e w (Handling.Link (nextHandle (v .last))); buffer = tt }
 
 abbrev pub appended : View → Entry → Walk Header → Outcome View Unit
 appended v e w = appendBy (foundOnce e w) v e w
@@ -54,6 +55,7 @@ appended v e w = appendBy (foundOnce e w) v e w
 abbrev pub hasSpace : View → Bool
 hasSpace v = ltb (length (v .entries)) SLOTS && ltb (v .last) LAST-HANDLE
 
+-- in this order
 abbrev pub appendTests : View → Entry → List Condition
 appendTests v e =
     goodArguments (badEntryArgument e (v .size))
@@ -77,11 +79,13 @@ unlinkTests v handle =
     ∷ record { passed = not (any (names handle) (v .headers)); refusal = Refusal.InUse }
     ∷ []
 
--- "Unlink removes a linked entry, without event"
+-- "Unlink removes a linked entry, without event": the first with this handle, and a sound state has no other
+abbrev pub unlinked : View → ℕ → Outcome View Unit
+unlinked v handle =
+    record { answer = DONE; state = withEntries v (withoutFirst (isLinkedAs handle) (v .entries)); buffer = tt }
+
 unfoldable pub unlink : View → ℕ → Outcome View Unit
-unlink v handle =
-    guarded v tt (unlinkTests v handle)
-    (record { answer = DONE; state = withEntries v (withoutFirst (isLinkedAs handle) (v .entries)); buffer = tt })
+unlink v handle = guarded v tt (unlinkTests v handle) (unlinked v handle)
 
 -- ## Search
 
@@ -94,6 +98,7 @@ abbrev pub searched : View → Entry → Walk Header → Outcome View Unit
 searched v e w =
     record { answer = SEARCHED (length (w .found)); state = handled v e w (searchHandling (e .list)); buffer = tt }
 
+-- append's tests of the entry, with the mode in the list's place; never NO_SPACE: decision 1
 abbrev pub searchTests : View → Entry → List Condition
 searchTests v e = goodArguments (badEntryArgument e (v .size)) ∷ []
 
@@ -102,9 +107,12 @@ search v e = guarded v tt (searchTests v e) (searched v e (walkFor e (v .headers
 
 -- ## What the calls are made of. No promise of a call cites these.
 
--- what an append answers, by its admission and by whether USE_ONCE has a fit
+-- what an admitted append answers, by whether USE_ONCE has a fit, and what any append answers
+abbrev pub takenOrLinked : Bool → ℕ → AppendAnswer
+takenOrLinked taken last = cond taken Append.Taken (Append.Linked (nextHandle last))
+
 abbrev pub appendAnswered : Admission → Bool → ℕ → AppendAnswer
-appendAnswered a taken last = byAdmission Append.Refused (cond taken Append.Taken (Append.Linked (last + 1))) a
+appendAnswered a taken last = byAdmission Append.Refused (takenOrLinked taken last) a
 
 -- what an append does with the headers found, by its answer
 abbrev pub appendHandling : AppendAnswer → Handling

@@ -17,6 +17,7 @@ pub struct NewDone {
 pub enum AppendAnswer {
     // With the new entry's handle.
     Linked(u32),
+    // USE_ONCE had a fit: nothing is linked.
     Taken,
     Refused(Refusal),
 }

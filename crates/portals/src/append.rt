@@ -1,4 +1,4 @@
-// Document 01, "Early messages": the call that appends an entry to a list.
+// Document 01, "Early messages": the call that appends an entry to a list (PtlMEAppend).
 use crate::admission;
 use crate::admission::Admission;
 use crate::answers::AppendAnswer;
@@ -80,12 +80,12 @@ pub fn append(t: Target, e: Entry) -> AppendDone
 {
     let a = append_admitted(t, e);
     let walks = admission::is_admitted(a) & (e.list == 0);
-    let w = walk::walk_over(t.unexpected, walks, e);
+    let w = walk::walk_if(t.unexpected, walks, e);
     let taken = walk::found_once(w, e);
     let answer = append_answer(a, taken, t.last);
-    let h = append_handling(answer);
+    let how = append_handling(answer);
     AppendDone {
         answer,
-        target: handling::target_after(t, h, w, e),
+        target: handling::target_after(t, how, w, e),
     }
 }

@@ -1,4 +1,4 @@
-// Document 01, "Early messages": the call that searches the unexpected headers.
+// Document 01, "Early messages": the call that searches the unexpected headers (PtlMESearch).
 use crate::admission;
 use crate::admission::Admission;
 use crate::answers::SearchAnswer;
@@ -47,11 +47,11 @@ pub fn search(t: Target, e: Entry) -> SearchDone
     let bad = entry::bad_entry_argument(e, t.size);
     let a = admission::admit(t, bad);
     let walks = admission::is_admitted(a);
-    let w = walk::walk_over(t.unexpected, walks, e);
+    let w = walk::walk_if(t.unexpected, walks, e);
     let answer = search_answer(a, w.found.count);
-    let h = search_handling(a, e.list);
+    let how = search_handling(a, e.list);
     SearchDone {
         answer,
-        target: handling::target_after(t, h, w, e),
+        target: handling::target_after(t, how, w, e),
     }
 }

@@ -1,4 +1,4 @@
-// Document 01, "Early messages": the call that unlinks an entry.
+// Document 01, "Early messages": the call that unlinks an entry (PtlMEUnlink).
 use crate::admission;
 use crate::admission::Admission;
 use crate::answers::PlainDone;

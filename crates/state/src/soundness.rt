@@ -4,7 +4,7 @@
 // pairs compared. The entry of a header is looked for from where the last header's was found, towards its handle. Nothing is looked
 // for where no header waits and no entry is retired. Other orders get the same answer more slowly.
 //
-// Entries and headers are passed by value, so a function that takes them is never called inside a loop.
+// Entries and headers are passed by value, so a function that takes them is never called inside a loop of this file.
 use crate::layout::Entries;
 use crate::layout::Header;
 use crate::layout::HeldEntry;

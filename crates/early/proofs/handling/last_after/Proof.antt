@@ -4,14 +4,14 @@ use Rattle.early.proofs.HandlingLaws.{last-stays}
 use Rattle.early.proofs.handling.last_after.Statement.{statement}
 use Rattle.early.proofs.handling.last_after.Tie as tie
 
-enum-known-h : tie.Need-enum-known-h
-enum-known-h c = search needs
+enum-known-how : tie.Need-enum-known-how
+enum-known-how c = search needs
 
 returns : tie.Need-returns
 returns c = search needs
 
 returns-2 : tie.Need-returns-2
-returns-2 c = last-stays (c .before .args .last) (c .before .args .h) (c .match .keys2)
+returns-2 c = last-stays (c .before .args .last) (c .before .args .how) (c .match .keys2)
 
 pub last-after-spec : {M : Type 1} → statement M
-last-after-spec = tie.close (tie.spec enum-known-h returns returns-2)
+last-after-spec = tie.close (tie.spec enum-known-how returns returns-2)

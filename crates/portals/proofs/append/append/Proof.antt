@@ -15,8 +15,8 @@ append-admitted-requires c κs = search needs
 is-admitted-requires : tie.Need-is-admitted-requires
 is-admitted-requires c κs = search needs
 
-walk-over-requires : tie.Need-walk-over-requires
-walk-over-requires c κs =
+walk-if-requires : tie.Need-walk-if-requires
+walk-if-requires c κs =
     let i = c .before in
     let m = i .before in
     let a = m .before .args in
@@ -43,8 +43,8 @@ target-after-requires c κs =
     let i = w .before .before in
     let m = i .before in
     let a = m .before .args in
-    append-asked (a .t) (a .e) (w .walk-over .result) (i .is-admitted .result && eqb (a .e .list) 0) (f .found-once .result) (m .append-admitted .result) (c .append-handling .result)
-    (m .append-admitted .ensures) (w .walk-over .ensures) (c .append-handling .ensures ∙ ap appendHandling (n .append-answer .ensures))
+    append-asked (a .t) (a .e) (w .walk-if .result) (i .is-admitted .result && eqb (a .e .list) 0) (f .found-once .result) (m .append-admitted .result) (c .append-handling .result)
+    (m .append-admitted .ensures) (w .walk-if .ensures) (c .append-handling .ensures ∙ ap appendHandling (n .append-answer .ensures))
 
 returns : tie.Need-returns
 returns c =
@@ -55,8 +55,8 @@ returns c =
     let i = w .before .before in
     let m = i .before in
     let a = m .before .args in
-    append-met (a .t) (a .e) _ (m .append-admitted .result) (w .walk-over .result) (i .is-admitted .result) _ (f .found-once .result) (h .append-handling .result)
-    (m .append-admitted .ensures) (i .is-admitted .ensures) refl (w .walk-over .ensures) (f .found-once .ensures)
+    append-met (a .t) (a .e) _ (m .append-admitted .result) (w .walk-if .result) (i .is-admitted .result) _ (f .found-once .result) (h .append-handling .result)
+    (m .append-admitted .ensures) (i .is-admitted .ensures) refl (w .walk-if .ensures) (f .found-once .ensures)
     (n .append-answer .ensures) (h .append-handling .ensures) (c .target-after .ensures)
 
 pub append-spec : {M : Type 1} → statement M
@@ -65,7 +65,7 @@ append-spec =
     (tie.spec
     append-admitted-requires
     is-admitted-requires
-    walk-over-requires
+    walk-if-requires
     found-once-requires
     append-answer-requires
     append-handling-requires

@@ -14,8 +14,8 @@ admit-requires c κs = search needs
 is-admitted-requires : tie.Need-is-admitted-requires
 is-admitted-requires c κs = search needs
 
-walk-over-requires : tie.Need-walk-over-requires
-walk-over-requires c κs =
+walk-if-requires : tie.Need-walk-if-requires
+walk-if-requires c κs =
     let m = c .before in
     let a = m .before .before .args in
     walks-fits _ (a .t) (m .admit .result) (c .is-admitted .result) (m .admit .ensures) (λ walks. sym (c .is-admitted .ensures) ∙ walks)
@@ -33,8 +33,8 @@ target-after-requires c κs =
     let m = i .before in
     let b = m .before in
     let a = b .before .args in
-    search-asked (a .t) (a .e) (w .walk-over .result) (i .is-admitted .result) (b .bad-entry-argument .result) (m .admit .result)
-    (c .search-handling .result) (m .admit .ensures) (w .walk-over .ensures) (c .search-handling .ensures)
+    search-asked (a .t) (a .e) (w .walk-if .result) (i .is-admitted .result) (b .bad-entry-argument .result) (m .admit .result)
+    (c .search-handling .result) (m .admit .ensures) (w .walk-if .ensures) (c .search-handling .ensures)
 
 returns : tie.Need-returns
 returns c =
@@ -45,8 +45,8 @@ returns c =
     let m = i .before in
     let b = m .before in
     let a = b .before .args in
-    search-met (a .t) (a .e) (record { answer = n .search-answer .result; target = c .target-after .result }) (b .bad-entry-argument .result) (m .admit .result) (w .walk-over .result) (i .is-admitted .result)
-    (h .search-handling .result) (b .bad-entry-argument .ensures) (m .admit .ensures) (i .is-admitted .ensures) (w .walk-over .ensures)
+    search-met (a .t) (a .e) (record { answer = n .search-answer .result; target = c .target-after .result }) (b .bad-entry-argument .result) (m .admit .result) (w .walk-if .result) (i .is-admitted .result)
+    (h .search-handling .result) (b .bad-entry-argument .ensures) (m .admit .ensures) (i .is-admitted .ensures) (w .walk-if .ensures)
     (n .search-answer .ensures) (h .search-handling .ensures) (c .target-after .ensures)
 
 pub search-spec : {M : Type 1} → statement M
@@ -56,7 +56,7 @@ search-spec =
     bad-entry-argument-requires
     admit-requires
     is-admitted-requires
-    walk-over-requires
+    walk-if-requires
     search-answer-requires
     search-handling-requires
     target-after-requires

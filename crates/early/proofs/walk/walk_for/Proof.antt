@@ -4,8 +4,8 @@ use mathlib.Core.Bool.{Bool, _&&_, not}
 use Prim.Native.Nat.{_-_}
 use borrow.Author.Needs.{needs}
 use Rattle.early.proofs.WalkLaws.{Walking, walking, found-room, left-room, walking-found, walking-left, walked}
-use Rattle.early.proofs.walk.walk_all.Statement.{statement}
-use Rattle.early.proofs.walk.walk_all.Tie as tie
+use Rattle.early.proofs.walk.walk_for.Statement.{statement}
+use Rattle.early.proofs.walk.walk_for.Tie as tie
 
 abbrev Inv-loop : tie.InvT-loop
 Inv-loop e us once found₀ left₀ over₀ i₀ found left over i = Walking e us found left over i
@@ -83,8 +83,8 @@ returns c =
     let s = k .before .before .before .before in
     walked (s .args .e) (s .args .t1) (s .pre) _ _ _ _ (k .loop .inv) (c .loop-test .left)
 
-pub walk-all-spec : {M : Type 1} → statement M
-walk-all-spec =
+pub walk-for-spec : {M : Type 1} → statement M
+walk-for-spec =
     tie.close
     (tie.spec
     Inv-loop
