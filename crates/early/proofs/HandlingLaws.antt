@@ -1,4 +1,4 @@
--- What a handling claims and leaves, by its variants; what a target lets its parts ask.
+-- What a handling makes of a part, and what a target lets its parts ask.
 use mathlib.Core.Path.{_≡_, refl, ap, sym, _∙_}
 use mathlib.Core.Bool.{true, false, true≢false}
 use mathlib.Core.List.{[], _∷_}
@@ -34,7 +34,7 @@ module _ {S : Type 0} {made : S → Type 0} {part : S} {how : Handling} where
   part-kept nothing = record { done = λ e. absurd (true≢false (sym e ∙ nothing)); kept = λ e. refl }
 
 -- one of the four variants before `Link` gives no handle
-pub last-stays : (last : ℕ) (h : Handling) → OneOf (0 ∷ 1 ∷ 2 ∷ 3 ∷ []) (tagOf the-type h) → last ≡ lastAfter last h
+pub last-stays : (last : ℕ) (how : Handling) → OneOf (0 ∷ 1 ∷ 2 ∷ 3 ∷ []) (tagOf the-type how) → last ≡ lastAfter last how
 last-stays last Handling.Nothing other = refl
 last-stays last Handling.Look other = refl
 last-stays last Handling.Delete other = refl

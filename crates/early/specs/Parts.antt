@@ -14,9 +14,10 @@ use Rattle.state.specs.Parts.{EntriesFit, EntriesHold, UnexpectedFit, Unexpecte
 use Rattle.state.specs.declared.layout.HeldEntry.{HeldEntry}
 use Rattle.state.specs.declared.layout.Header.{Header}
 use Rattle.state.specs.declared.layout.Entries.{Entries}
+use Rattle.state.specs.declared.layout.Unexpected.{Unexpected}
 use Rattle.state.specs.declared.layout.Queue.{Queue}
 use Rattle.state.specs.declared.layout.Target.{Target}
-use Rattle.early.specs.Walk.{Walk}
+use Rattle.early.specs.Walk.{Walk, walkIf}
 use Rattle.early.specs.Handling.{entriesAfter, headersAfter, eventsIssued, countersAfter, lastAfter}
 use Rattle.early.specs.declared.walk.Walked.{Walked}
 use Rattle.early.specs.declared.handling.Handling.{Handling}
@@ -34,6 +35,10 @@ pub record WalkFits (w : Walked) : Type 0 where
 pub record WalkHolds (w : Walked) (v : Walk Header) : Type 0 where
   pub found : UnexpectedHold (w .found) (v .found)
   pub left : UnexpectedHold (w .left) (v .left)
+
+-- the walk of a call, over headers that fit
+abbrev pub WalkedAs : Unexpected → Bool → Entry → Walked → Type 0
+WalkedAs us walks e w = UnexpectedFit us → WalkHolds w (walkIf walks e (headersOf us))
 
 -- ## Handing out
 

@@ -11,8 +11,8 @@ ghost use mathlib.Core.Path.{_≡_};
 ghost use mathlib.Core.Bool.{true};
 ghost use Rattle.state.specs.View.{headersOf};
 ghost use Rattle.state.specs.Parts.{UnexpectedFit};
-ghost use Rattle.early.specs.Walk.{arrivalIn, fitsHeader, usesOnce, walkFor, walkIf, foundOnce};
-ghost use Rattle.early.specs.Parts.{walkOf, WalkHolds};
+ghost use Rattle.early.specs.Walk.{arrivalIn, fitsHeader, usesOnce, walkFor, foundOnce};
+ghost use Rattle.early.specs.Parts.{walkOf, WalkHolds, WalkedAs};
 
 // What a walk found and what it left, each in the order of arrival.
 pub struct Walked {
@@ -87,7 +87,7 @@ fn walk_for(us: Unexpected, e: Entry) -> Walked
 // The walk of a call that walks; one that does not finds none and leaves all.
 pub fn walk_if(us: Unexpected, walks: bool, e: Entry) -> Walked
     requires { ⌜ ((walks ≡ true) → UnexpectedFit us) ⌝ }
-    ensures { λ r. ⌜ (UnexpectedFit us → WalkHolds r (walkIf walks e (headersOf us))) ⌝ }
+    ensures { λ r. ⌜ WalkedAs us walks e r ⌝ }
 {
     if walks {
         walk_for(us, e)

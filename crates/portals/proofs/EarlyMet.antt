@@ -14,14 +14,14 @@ use Rattle.matching.specs.declared.refusals.Refusal.{Refusal}
 use Rattle.matching.specs.declared.refusals.BadArgument.{BadArgument}
 use Rattle.state.specs.Sizes.{SLOTS, LAST-HANDLE}
 use Rattle.state.specs.View.{View, viewOf, entriesOf, headersOf}
-use Rattle.state.specs.Parts.{UnexpectedFit, TargetFits}
+use Rattle.state.specs.Parts.{UnexpectedFit}
 use Rattle.state.specs.declared.layout.Header.{Header}
 use Rattle.state.specs.declared.layout.Target.{Target}
 use Rattle.state.proofs.ListLaws.{both, cond-cases}
 use Rattle.state.proofs.SlotLaws.{in-use, held-count}
-use Rattle.early.specs.Walk.{Walk, walkFor, walkIf, foundOnce}
+use Rattle.early.specs.Walk.{Walk, walkFor, foundOnce}
 use Rattle.early.specs.Handling.{handled}
-use Rattle.early.specs.Parts.{walkOf, WalkHolds, isDone, IfDone, RoomFor, TargetAllows, TargetAfter}
+use Rattle.early.specs.Parts.{walkOf, WalkHolds, WalkedAs, isDone, IfDone, RoomFor, TargetAllows, TargetAfter}
 use Rattle.early.specs.declared.walk.Walked.{Walked}
 use Rattle.early.specs.declared.handling.Handling.{Handling}
 use Rattle.early.specs.declared.handling.Handling.the-variants as Handling
@@ -34,7 +34,6 @@ use Rattle.portals.specs.EarlyMessages.{takenBy, nextHandle, appendBy, a
 use Rattle.portals.specs.Promises.{AppendMet, SearchMet}
 use Rattle.portals.specs.declared.admission.Admission.{Admission}
 use Rattle.portals.specs.declared.admission.Admission.the-variants as Admission
-use Rattle.portals.specs.declared.answers.AppendAnswer.the-variants as Append
 use Rattle.portals.specs.declared.answers.AppendDone.{AppendDone}
 use Rattle.portals.specs.declared.answers.SearchDone.{SearchDone}
 use Rattle.portals.proofs.AdmitLaws.{admitted-is, admitted-sound, admitted-passed, admits-for}
@@ -110,7 +109,7 @@ module _ (t : Target) (e : Entry) (w : Walked) (walks taken : Bool) where
   -- what an append asks of the target: nothing where it is refused
   pub append-asked : (a : Admission) (how : Handling)
       → Admits (λ v. appendTests v e) t a
-      → (UnexpectedFit (t .unexpected) → WalkHolds w (walkIf walks e (headersOf (t .unexpected))))
+      → WalkedAs (t .unexpected) walks e w
       → how ≡ appendHandling (appendAnswered a taken (t .last))
       → IfDone how (TargetAllows t w) × RoomFor how (t .entries)
   append-asked (Admission.Refused r) how admits holds is = rw is (λ done. absurd (false≢true done), tt)
@@ -130,7 +129,7 @@ module _ (t : Target) (e : Entry) (w : Walked) (walks taken : Bool) where
       → Admits (λ v. appendTests v e) t a
       → admitted ≡ isAdmitted a
       → walks ≡ (admitted && eqb (e .list) 0)
-      → (UnexpectedFit (t .unexpected) → WalkHolds w (walkIf walks e (headersOf (t .unexpected))))
+      → WalkedAs (t .unexpected) walks e w
       → (UnexpectedFit (w .found) → taken ≡ foundOnce e (walkOf w))
       → TargetAfter t e w (appendHandling (appendAnswered a taken (t .last))) t′
       → Ending (appended (viewOf t) e (takenBy e (headersOf (t .unexpected)))) t tt t′ tt (appendAnswer (appendAnswered a taken (t .last))) a
@@ -145,7 +144,7 @@ pub append-met : (t : Target) (e : Entry) (r : AppendDone) (a : Admission) (w : 
     → Admits (λ v. appendTests v e) t a
     → admitted ≡ isAdmitted a
     → walks ≡ (admitted && eqb (e .list) 0)
-    → (UnexpectedFit (t .unexpected) → WalkHolds w (walkIf walks e (headersOf (t .unexpected))))
+    → WalkedAs (t .unexpected) walks e w
     → (UnexpectedFit (w .found) → taken ≡ foundOnce e (walkOf w))
     → r .answer ≡ appendAnswered a taken (t .last)
     → how ≡ appendHandling (r .answer)
@@ -167,7 +166,7 @@ module _ (t : Target) (e : Entry) (w : Walked) (walks : Bool) (found : BadArgume
   -- what a search asks of the target: nothing where it is refused
   pub search-asked : (a : Admission) (how : Handling)
       → Admits (λ v. goodArguments found ∷ []) t a
-      → (UnexpectedFit (t .unexpected) → WalkHolds w (walkIf walks e (headersOf (t .unexpected))))
+      → WalkedAs (t .unexpected) walks e w
       → how ≡ byAdmission (λ r. Handling.Nothing) (searchHandling (e .list)) a
       → IfDone how (TargetAllows t w) × RoomFor how (t .entries)
   search-asked (Admission.Refused r) how admits holds is = rw is (λ done. absurd (false≢true done), tt)
@@ -183,7 +182,7 @@ module _ (t : Target) (e : Entry) (w : Walked) (walks : Bool) (found : BadArgume
   search-ending : (t′ : Target) (a : Admission)
       → Admits (λ v. goodArguments found ∷ []) t a
       → walks ≡ isAdmitted a
-      → (UnexpectedFit (t .unexpected) → WalkHolds w (walkIf walks e (headersOf (t .unexpected))))
+      → WalkedAs (t .unexpected) walks e w
       → TargetAfter t e w (byAdmission (λ r. Handling.Nothing) (searchHandling (e .list)) a) t′
       → Ending (searched (viewOf t) e (walkFor e (headersOf (t .unexpected)))) t tt t′ tt (byAdmission refused (SEARCHED (w .found .count)) a) a
   search-ending t′ (Admission.Refused r) admits is holds after = handled-not t t′ e w r _ refl after
@@ -197,7 +196,7 @@ pub search-met : (t : Target) (e : Entry) (r : SearchDone) (found : BadArgument)
     → found ≡ badEntryArgument e (t .size)
     → Admits (λ v. goodArguments found ∷ []) t a
     → walks ≡ isAdmitted a
-    → (UnexpectedFit (t .unexpected) → WalkHolds w (walkIf walks e (headersOf (t .unexpected))))
+    → WalkedAs (t .unexpected) walks e w
     → searchAnswer (r .answer) ≡ byAdmission refused (SEARCHED (w .found .count)) a
     → how ≡ byAdmission (λ r. Handling.Nothing) (searchHandling (e .list)) a
     → TargetAfter t e w how (r .target)

@@ -10,7 +10,7 @@ use lib.Dec.{ltb}
 use lib.ListN.{set}
 use Rattle.matching.specs.declared.refusals.BadArgument.{BadArgument}
 use Rattle.matching.specs.declared.refusals.BadArgument.the-variants as BadArgument
-use Rattle.state.specs.Lists.{withoutFirst, removeAt}
+use Rattle.state.specs.Lists.{removeAt}
 use Rattle.state.specs.View.{View, entriesOf, queueOf, viewOf, emptyTarget, emptyView, withEntries, withQueue, withCounters, isLinkedAs}
 use Rattle.state.specs.Soundness.{soundView, sound, seen}
 use Rattle.state.specs.Counters.{counterAt, increased}
