@@ -26,7 +26,7 @@ walk-view w v h =
     let same : _≡_ {A = Walk Header} (record { found = headersOf (w .found); left = headersOf (w .left) }) v = rw (h .found .held, h .left .held) in
     same
 
-pub walk-fits : (w : Walked) (v : Walk Header) → WalkHolds w v → WalkFits w
+walk-fits : (w : Walked) (v : Walk Header) → WalkHolds w v → WalkFits w
 walk-fits w v h = record { found = h .found .fits; left = h .left .fits }
 
 module _ {A : Type 0} (p : A → Bool) where
@@ -50,7 +50,7 @@ unfolding walkFor
 walk-leaves-all true e headers none = all-left (fitsHeader e) (usesOnce e) headers none
 walk-leaves-all false e headers none = refl
 
--- what a walk of a sound target lets the parts ask
+-- a sound target and its walk are as is asked
 pub walk-allows : (t : Target) (walks : Bool) (e : Entry) (w : Walked)
     → isSound t ≡ true
     → TargetFits t

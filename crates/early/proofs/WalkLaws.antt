@@ -29,20 +29,20 @@ module _ {A : Type 0} (p : A → Bool) where
   onward over once l = cond over (noWalk l) (walk once p l)
 
   -- the next one is found: under `once` the walk is then over
-  pub found-next : (once : Bool) (x : A) (l : List A) → p x ≡ true
+  found-next : (once : Bool) (x : A) (l : List A) → p x ≡ true
       → _≡_ {A = Walk A} (walk once p (x ∷ l)) (record { found = x ∷ onward once once l .found; left = onward once once l .left })
   found-next true x l e = rw e
   found-next false x l e = rw e
 
   -- the next one is left
-  pub left-next : (over once : Bool) (x : A) (l : List A) → (not over && p x) ≡ false
+  left-next : (over once : Bool) (x : A) (l : List A) → (not over && p x) ≡ false
       → _≡_ {A = Walk A} (onward over once (x ∷ l)) (record { found = onward over once l .found; left = x ∷ onward over once l .left })
   left-next true once x l e = refl
   left-next false true x l e = rw e
   left-next false false x l e = rw e
 
   -- none is left to walk
-  pub none-next : (over once : Bool) → _≡_ {A = Walk A} (onward over once []) (noWalk [])
+  none-next : (over once : Bool) → _≡_ {A = Walk A} (onward over once []) (noWalk [])
   none-next true once = refl
   none-next false true = refl
   none-next false false = refl
@@ -177,7 +177,7 @@ module _ (us : Unexpected) (walks : Bool) (e : Entry) where
     left = record { held = refl; fits = fits };
   })
 
--- one is found where the array of those found is not empty
+-- the count is above 0 where the list of those in use is not empty
 pub found-some : {A : Type 0} {size n : ℕ} (s : List A) → Fits size s n → ltb 0 n ≡ not (isEmpty (take n s))
 found-some {A} {size} {n} s fits = by n s (in-use fits)
   where

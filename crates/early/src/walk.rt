@@ -52,7 +52,7 @@ fn uses_once(e: Entry) -> bool
     entry::is_set(e.options, entry::USE_ONCE)
 }
 
-// No headers, in an array as long.
+// No headers: the count is 0, and the slots stay as they are.
 fn emptied(mut us: Unexpected) -> Unexpected
     ensures { λ r. ⌜ r ≡ record { slots = us .slots; count = 0 } ⌝ }
 {

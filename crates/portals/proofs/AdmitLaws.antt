@@ -28,7 +28,7 @@ use Rattle.portals.proofs.GuardLaws.{AllPassed, guard-cases}
 
 -- ## Admitted
 
-pub not-admitted : (r : Refusal) → Admission.Refused r ≡ Admission.Admitted → ⊥
+not-admitted : (r : Refusal) → Admission.Refused r ≡ Admission.Admitted → ⊥
 not-admitted r e = false≢true (ap isAdmitted e)
 
 pub admitted-is : (a : Admission) → isAdmitted a ≡ true → a ≡ Admission.Admitted

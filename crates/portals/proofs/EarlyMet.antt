@@ -1,5 +1,5 @@
--- How append and search keep their promises: where the walk is the rules', and the target is left as what was done with the headers
--- found says.
+-- How append and search keep their promises: the walk is the one that the rules give, and the target is left as the handling of the
+-- headers found says.
 use mathlib.Core.Path.{_≡_, refl, ap, sym, _∙_, subst}
 use mathlib.Core.Bool.{Bool, true, false, _&&_, false≢true}
 use mathlib.Core.List.{List, [], _∷_}
@@ -106,7 +106,7 @@ module _ (t t′ : Target) (e : Entry) (w : Walked) (v : Walk Header) (walks : W
       rw (← found) (append-by-done taken after)
 
 module _ (t : Target) (e : Entry) (w : Walked) (walks taken : Bool) where
-  -- what an append asks of the target: nothing where it is refused
+  -- what `target_after` asks is given; where the append is refused nothing is asked
   pub append-asked : (a : Admission) (how : Handling)
       → Admits (λ v. appendTests v e) t a
       → WalkedAs (t .unexpected) walks e w
@@ -163,7 +163,7 @@ search-done : (mode : ℕ) → isDone (searchHandling mode) ≡ true
 search-done mode = cond-cases (λ (how : Handling). isDone how ≡ true) (eqb mode 0) Handling.Look Handling.Delete (λ look. refl) (λ delete. refl)
 
 module _ (t : Target) (e : Entry) (w : Walked) (walks : Bool) (found : BadArgument) where
-  -- what a search asks of the target: nothing where it is refused
+  -- what `target_after` asks is given; where the search is refused nothing is asked
   pub search-asked : (a : Admission) (how : Handling)
       → Admits (λ v. goodArguments found ∷ []) t a
       → WalkedAs (t .unexpected) walks e w

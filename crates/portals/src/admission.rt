@@ -47,7 +47,7 @@ pub fn is_admitted(a: Admission) -> bool
     }
 }
 
-// What a call answers that says no more than that it is done.
+// The answer of a call that has no more to say than that it is done.
 pub fn answer_plain(a: Admission) -> PlainAnswer
     ensures { λ r. ⌜ plainAnswer r ≡ byAdmission refused DONE a ⌝ }
 {

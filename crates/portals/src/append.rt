@@ -48,7 +48,7 @@ fn append_admitted(t: Target, e: Entry) -> Admission
     Admission::Admitted
 }
 
-// What an append answers: TAKEN where USE_ONCE has a fit, else LINKED with the next handle.
+// What an append answers: its refusal, or TAKEN where USE_ONCE has a fit, else LINKED with the next handle.
 fn append_answer(a: Admission, taken: bool, last: u32) -> AppendAnswer
     requires { ⌜ ((a ≡ Admission.Admitted) → (last < LAST-HANDLE)) ⌝ }
     ensures { λ r. ⌜ r ≡ appendAnswered a taken last ⌝ }

@@ -27,7 +27,7 @@ pub issued-posted : (q : Queue) (v : EventQueue) (e : Event) (i : Issued)
 issued-posted q v e i is h = subst (λ (event : Event). QueueHolds q (post v (record { event = event; options = i .options }))) is h
 
 -- some events, and then others
-pub post-join : (v : EventQueue) (first then : List Issued) → postAll v (first ++ then) ≡ postAll (postAll v first) then
+post-join : (v : EventQueue) (first then : List Issued) → postAll v (first ++ then) ≡ postAll (postAll v first) then
 post-join v [] then = refl
 post-join v (i ∷ first) then = post-join (post v i) first then
 
@@ -43,8 +43,8 @@ then-posted q q′ v first then f t = record {
 
 -- ## A loop
 
--- the loop that posts to a queue that held v what `events` says of the first n of s: all of that is posted where what it says of those
--- from place i on is posted to the queue as it is now
+-- the loop that posts what `events` gives of the first n of s to a queue that held v, at place i: to post all of that to v is to post
+-- what `events` gives of those from place i on to the queue as it is now
 module _ {A : Type 0} (events : List A → List Issued) where
   pub record Posting (size n : ℕ) (s : List A) (v : EventQueue) (q : Queue) (i : ℕ) : Type 0 where
     pub within : i ≤ n
@@ -56,7 +56,7 @@ module _ {A : Type 0} (events : List A → List Issued) where
   pub posting : {size n : ℕ} {s : List A} (q : Queue) → Fits size s n → QueueFits q → Posting size n s (queueOf q) q 0
   posting q slots queue = record { within = omega arith; slots = slots; queue = queue; rest = refl }
 
-  -- a turn: `now` is posted, the events that the element at i issues before those after it do
+  -- a turn: the events that the element at i issues, `now`, are posted; those of the elements after it are still to come
   pub posting-more : {size n : ℕ} {s : List A} {v : EventQueue} {q : Queue} {i : ℕ} (q′ : Queue) (d : A) (now : List Issued)
       → Posting size n s v q i
       → i < n
@@ -85,7 +85,7 @@ module _ {A : Type 0} (events : List A → List Issued) where
       posting-more q′ d (issued (getD s i d) ∷ []) p h turn (issued-posted q′ (queueOf q) e (issued (getD s i d)) is t)
 
   -- the element at i issues none
-  pub posting-none : {size n : ℕ} {s : List A} {v : EventQueue} {q : Queue} {i : ℕ} (d : A)
+  posting-none : {size n : ℕ} {s : List A} {v : EventQueue} {q : Queue} {i : ℕ} (d : A)
       → Posting size n s v q i
       → i < n
       → events (getD s i d ∷ drop (i + 1) (take n s)) ≡ events (drop (i + 1) (take n s))

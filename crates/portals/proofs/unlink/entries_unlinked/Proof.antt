@@ -1,4 +1,4 @@
--- The entry goes that stands at the first place that is linked with the handle.
+-- The entry that goes is the first that is linked with the handle.
 use native.Mathlib.Omega.{arith}
 use borrow.Author.Tests.{not-false}
 use Rattle.state.specs.View.{isLinkedAs}
