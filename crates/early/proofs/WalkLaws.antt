@@ -1,6 +1,6 @@
 -- The walk as a loop: what was found and left so far, and what is still to be walked.
 use mathlib.Core.Path.{_≡_, refl, ap, sym, _∙_}
-use mathlib.Core.Bool.{Bool, true, false, _&&_, not, cond}
+use mathlib.Core.Bool.{Bool, true, false, _&&_, not, cond, false≢true}
 use mathlib.Core.List.{List, [], _∷_, _++_, append-nil, append-assoc}
 use Prim.Native.Nat.{ℕ, zero, suc, _+_, _≤_, _<_}
 use native.Mathlib.Omega.{arith}
@@ -8,7 +8,7 @@ use borrow.Author.Tests.{not-true, lt-ltb}
 use lib.Dec.{ltb}
 use lib.ListN.{length, take, drop, getD, length-append}
 use Rattle.matching.specs.declared.layout.Entry.{Entry}
-use Rattle.state.specs.Lists.{isEmpty}
+use Rattle.state.specs.Lists.{select, selectNot, firstOnly, withoutFirst, isEmpty}
 use Rattle.state.specs.Sizes.{HEADERS}
 use Rattle.state.specs.View.{headersOf}
 use Rattle.state.specs.Parts.{Fits, UnexpectedFit, UnexpectedHold}
@@ -46,6 +46,21 @@ module _ {A : Type 0} (p : A → Bool) where
   none-next true once = refl
   none-next false true = refl
   none-next false false = refl
+
+  -- one element: it is not found, and so it is left, as the others are
+  left-too : (passes : Bool) (x : A) (first found gone left l : List A)
+      → cond passes (x ∷ first) found ≡ []
+      → (found ≡ [] → left ≡ l)
+      → cond passes gone (x ∷ left) ≡ x ∷ l
+  left-too true x first found gone left l e f = absurd (false≢true (ap isEmpty e))
+  left-too false x first found gone left l e f = ap (λ (r : List A). x ∷ r) (f e)
+
+  -- where none is found all are left
+  all-left : (once : Bool) (l : List A) → walk once p l .found ≡ [] → walk once p l .left ≡ l
+  all-left true [] e = refl
+  all-left false [] e = refl
+  all-left true (x ∷ l) e = left-too (p x) x [] (firstOnly p l) l (withoutFirst p l) l e (all-left true l)
+  all-left false (x ∷ l) e = left-too (p x) x (select p l) (select p l) (selectNot p l) (selectNot p l) l e (all-left false l)
 
 -- ## The unexpected headers
 
@@ -176,6 +191,12 @@ module _ (us : Unexpected) (walks : Bool) (e : Entry) where
     found = record { held = refl; fits = record { room = omega arith; long = fits .long } };
     left = record { held = refl; fits = fits };
   })
+
+-- a call that finds none leaves all
+pub walk-leaves-all : (walks : Bool) (e : Entry) (headers : List Header) → walkIf walks e headers .found ≡ [] → walkIf walks e headers .left ≡ headers
+unfolding walkFor
+walk-leaves-all true e headers none = all-left (fitsHeader e) (usesOnce e) headers none
+walk-leaves-all false e headers none = refl
 
 -- the count is above 0 where the list of those in use is not empty
 pub found-some : {A : Type 0} {size n : ℕ} (s : List A) → Fits size s n → ltb 0 n ≡ not (isEmpty (take n s))

@@ -125,25 +125,22 @@ module _ (t : Target) (e : Entry) (w : Walked) (walks taken : Bool) where
       by true allows room = (λ done. allows, tt)
       by false allows room = (λ done. allows, room)
 
-  append-ending : (t′ : Target) (a : Admission) (admitted : Bool)
+  append-ending : (t′ : Target) (a : Admission)
       → Admits (λ v. appendTests v e) t a
-      → admitted ≡ isAdmitted a
-      → walks ≡ (admitted && eqb (e .list) 0)
+      → walks ≡ (isAdmitted a && eqb (e .list) 0)
       → WalkedAs (t .unexpected) walks e w
       → (UnexpectedFit (w .found) → taken ≡ foundOnce e (walkOf w))
       → TargetAfter t e w (appendHandling (appendAnswered a taken (t .last))) t′
       → Ending (appended (viewOf t) e (takenBy e (headersOf (t .unexpected)))) t tt t′ tt (appendAnswer (appendAnswered a taken (t .last))) a
-  append-ending t′ (Admission.Refused r) admitted admits is so holds found after = handled-not t t′ e w r _ refl after
-  append-ending t′ Admission.Admitted admitted admits is so holds found after =
+  append-ending t′ (Admission.Refused r) admits so holds found after = handled-not t t′ e w r _ refl after
+  append-ending t′ Admission.Admitted admits so holds found after =
       let fits = admits .fits refl in
-      let priority : walks ≡ eqb (e .list) 0 = so ∙ rw is in
-      let walked = rw priority at (holds (fits .unexpected)) in
+      let walked = rw so at (holds (fits .unexpected)) in
       append-done t t′ e w (takenBy e (headersOf (t .unexpected))) walked taken (found (walked .found .fits)) after
 
-pub append-met : (t : Target) (e : Entry) (r : AppendDone) (a : Admission) (w : Walked) (admitted walks taken : Bool) (how : Handling)
+pub append-met : (t : Target) (e : Entry) (r : AppendDone) (a : Admission) (w : Walked) (walks taken : Bool) (how : Handling)
     → Admits (λ v. appendTests v e) t a
-    → admitted ≡ isAdmitted a
-    → walks ≡ (admitted && eqb (e .list) 0)
+    → walks ≡ (isAdmitted a && eqb (e .list) 0)
     → WalkedAs (t .unexpected) walks e w
     → (UnexpectedFit (w .found) → taken ≡ foundOnce e (walkOf w))
     → r .answer ≡ appendAnswered a taken (t .last)
@@ -151,11 +148,11 @@ pub append-met : (t : Target) (e : Entry) (r : AppendDone) (a : Admission) (w : 
     → TargetAfter t e w how (r .target)
     → AppendMet t e r
 unfolding append
-append-met t e r a w admitted walks taken how admits is so holds found answers handles after =
+append-met t e r a w walks taken how admits so holds found answers handles after =
     let left = subst (λ (b : Handling). TargetAfter t e w b (r .target)) (handles ∙ ap appendHandling answers) after in
     met (λ v. append v e) (λ v. appended v e (takenBy e (v .headers))) (λ v. appendTests v e) tt (λ v. refl) (λ v. append-sound v e)
     t (r .target) tt (appendAnswer (r .answer)) a (admits .answer)
-    (rw answers (append-ending t e w walks taken (r .target) a admitted admits is so holds found left))
+    (rw answers (append-ending t e w walks taken (r .target) a admits so holds found left))
 
 -- ## Search
 

@@ -14,11 +14,13 @@ use state::layout::Target;
 use state::sizes;
 use state::soundness;
 ghost use mathlib.Core.Path.{_≡_};
+ghost use mathlib.Core.Bool.{_&&_};
 ghost use Prim.Native.Nat.{_<_};
+ghost use lib.Dec.{eqb};
 ghost use Rattle.state.specs.Sizes.{LAST-HANDLE};
 ghost use Rattle.state.specs.View.{viewOf};
 ghost use Rattle.state.specs.Parts.{EntriesFit};
-ghost use Rattle.portals.specs.Admission.{Admits};
+ghost use Rattle.portals.specs.Admission.{isAdmitted, Admits};
 ghost use Rattle.portals.specs.EarlyMessages.{hasSpace, appendTests, appendAnswered, appendHandling};
 ghost use Rattle.portals.specs.Promises.{AppendMet};
 ghost use Rattle.portals.specs.declared.admission.Admission.the-variants as Admission;
@@ -46,6 +48,13 @@ fn append_admitted(t: Target, e: Entry) -> Admission
         return Admission::Refused(Refusal::NoSpace);
     }
     Admission::Admitted
+}
+
+// It walks: it is admitted, and goes to the priority list.
+fn append_walks(a: Admission, e: Entry) -> bool
+    ensures { λ r. ⌜ r ≡ (isAdmitted a && eqb (e .list) 0) ⌝ }
+{
+    admission::is_admitted(a) & (e.list == 0)
 }
 
 // What an append answers: its refusal, or TAKEN where USE_ONCE has a fit, else LINKED with the next handle.
@@ -79,7 +88,7 @@ pub fn append(t: Target, e: Entry) -> AppendDone
     ensures { λ r. ⌜ AppendMet t e r ⌝ }
 {
     let a = append_admitted(t, e);
-    let walks = admission::is_admitted(a) & (e.list == 0);
+    let walks = append_walks(a, e);
     let w = walk::walk_if(t.unexpected, walks, e);
     let taken = walk::found_once(w, e);
     let answer = append_answer(a, taken, t.last);

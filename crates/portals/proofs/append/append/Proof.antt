@@ -1,8 +1,6 @@
 -- Whether it is admitted decides whether it walks; what it found decides the answer, and the answer what is left of the target.
-use mathlib.Core.Path.{refl, ap, sym, _∙_}
-use mathlib.Core.Bool.{_&&_}
+use mathlib.Core.Path.{ap, sym, _∙_}
 use borrow.Author.Needs.{needs}
-use lib.Dec.{eqb}
 use Rattle.state.proofs.ListLaws.{both}
 use Rattle.portals.specs.EarlyMessages.{appendTests, appendHandling}
 use Rattle.portals.proofs.EarlyMet.{walks-fits, handle-left, append-asked, append-met}
@@ -12,23 +10,22 @@ use Rattle.portals.proofs.append.append.Tie as tie
 append-admitted-requires : tie.Need-append-admitted-requires
 append-admitted-requires c κs = search needs
 
-is-admitted-requires : tie.Need-is-admitted-requires
-is-admitted-requires c κs = search needs
+append-walks-requires : tie.Need-append-walks-requires
+append-walks-requires c κs = search needs
 
 walk-if-requires : tie.Need-walk-if-requires
 walk-if-requires c κs =
-    let i = c .before in
-    let m = i .before in
+    let m = c .before in
     let a = m .before .args in
-    walks-fits (λ v. appendTests v (a .e)) (a .t) (m .append-admitted .result) (i .is-admitted .result && eqb (a .e .list) 0) (m .append-admitted .ensures)
-    (λ walks. sym (i .is-admitted .ensures) ∙ both (i .is-admitted .result) (eqb (a .e .list) 0) walks .0)
+    walks-fits (λ v. appendTests v (a .e)) (a .t) (m .append-admitted .result) (c .append-walks .result) (m .append-admitted .ensures)
+    (λ walks. both _ _ (sym (c .append-walks .ensures) ∙ walks) .0)
 
 found-once-requires : tie.Need-found-once-requires
 found-once-requires c κs = search needs
 
 append-answer-requires : tie.Need-append-answer-requires
 append-answer-requires c κs =
-    let m = c .before .before .before .before in
+    let m = c .before .before .before in
     let a = m .before .args in
     handle-left (a .t) (a .e) (m .append-admitted .result) (m .append-admitted .ensures)
 
@@ -40,10 +37,10 @@ target-after-requires c κs =
     let n = c .before in
     let f = n .before in
     let w = f .before in
-    let i = w .before .before in
+    let i = w .before in
     let m = i .before in
     let a = m .before .args in
-    append-asked (a .t) (a .e) (w .walk-if .result) (i .is-admitted .result && eqb (a .e .list) 0) (f .found-once .result) (m .append-admitted .result) (c .append-handling .result)
+    append-asked (a .t) (a .e) (w .walk-if .result) (i .append-walks .result) (f .found-once .result) (m .append-admitted .result) (c .append-handling .result)
     (m .append-admitted .ensures) (w .walk-if .ensures) (c .append-handling .ensures ∙ ap appendHandling (n .append-answer .ensures))
 
 returns : tie.Need-returns
@@ -52,11 +49,11 @@ returns c =
     let n = h .before in
     let f = n .before in
     let w = f .before in
-    let i = w .before .before in
+    let i = w .before in
     let m = i .before in
     let a = m .before .args in
-    append-met (a .t) (a .e) _ (m .append-admitted .result) (w .walk-if .result) (i .is-admitted .result) _ (f .found-once .result) (h .append-handling .result)
-    (m .append-admitted .ensures) (i .is-admitted .ensures) refl (w .walk-if .ensures) (f .found-once .ensures)
+    append-met (a .t) (a .e) _ (m .append-admitted .result) (w .walk-if .result) (i .append-walks .result) (f .found-once .result) (h .append-handling .result)
+    (m .append-admitted .ensures) (i .append-walks .ensures) (w .walk-if .ensures) (f .found-once .ensures)
     (n .append-answer .ensures) (h .append-handling .ensures) (c .target-after .ensures)
 
 pub append-spec : {M : Type 1} → statement M
@@ -64,7 +61,7 @@ append-spec =
     tie.close
     (tie.spec
     append-admitted-requires
-    is-admitted-requires
+    append-walks-requires
     walk-if-requires
     found-once-requires
     append-answer-requires
