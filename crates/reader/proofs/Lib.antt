@@ -1,0 +1,4 @@
+pub mod NumberLaws
+pub mod ContentsLaws
+pub mod CallLaws
+pub mod JudgingLaws

@@ -1,0 +1,42 @@
+-- Document 01, "Script and printout": head and contents of a script.
+use Prim.Native.Nat.{ℕ, zero, suc, _+_, _*_, _-_}
+use mathlib.Core.Bool.{Bool, cond, _&&_}
+use mathlib.Core.List.{List}
+use lib.Dec.{leb}
+use lib.ListN.{length}
+use Rattle.reader.specs.Numbers.{numberAt, byteAt}
+use Rattle.reader.specs.declared.contents.Head.{Head}
+use Rattle.reader.specs.declared.contents.Line.{Line}
+
+-- the head's length in bytes
+abbrev pub HEAD : ℕ
+HEAD = 8
+
+-- "count u16 (at most 1,024)"
+abbrev pub CALLS : ℕ
+CALLS = 1024
+
+-- "Head: count u16 .., zero u16, memory u32"
+unfoldable pub headOf : List ℕ → Head
+headOf s = record { count = numberAt s 0 2; reserved = numberAt s 2 2; memory = numberAt s 4 4 }
+
+-- where line i of the contents begins
+abbrev pub lineStart : ℕ → ℕ
+lineStart i = HEAD + 8 * i
+
+-- "per call kind u8, zero u8, body length u16, body place u32"
+abbrev pub lineRead : List ℕ → ℕ → Line
+lineRead s at =
+    record { kind = byteAt s at; reserved = byteAt s (at + 1); length = numberAt s (at + 2) 2; place = numberAt s (at + 4) 4 }
+
+-- what stands where a file has no such line
+abbrev pub noLine : Line
+noLine = record { kind = 0; reserved = 0; length = 0; place = 0 }
+
+unfoldable pub lineAt : List ℕ → ℕ → Line
+lineAt s i = cond (leb (suc i) CALLS && leb (lineStart (suc i)) (length s)) (lineRead s (lineStart i)) noLine
+
+-- the sum of the body lengths of m lines, from line i on
+unfoldable pub bodyLengths : List ℕ → ℕ → ℕ → ℕ
+bodyLengths s zero i = 0
+bodyLengths s (suc m) i = lineAt s i .length + bodyLengths s m (suc i)

@@ -1,0 +1,4 @@
+pub mod Numbers
+pub mod Contents
+pub mod Calls
+pub mod Judging

@@ -1,0 +1,100 @@
+use borrow.Author.Needs.{needs}
+use Prim.Native.Nat.{_-_}
+use mathlib.Core.Path.{_≡_, refl, _∙_}
+use lib.ListN.{length, length-take}
+use Rattle.reader.proofs.JudgingLaws.{good-head, good-calls}
+use Rattle.script.proofs.ReplayLaws.{Going, going-begins, going-line, going-on, going-ends}
+use native.Mathlib.Omega.{arith}
+use Rattle.script.proofs.replay.run_lines.Statement.{statement}
+use Rattle.script.proofs.replay.run_lines.Tie as tie
+
+abbrev Inv-loop : tie.InvT-loop
+Inv-loop script memory₀ out₀ count t₀ written₀ k₀ memory out t written k =
+    (length memory ≡ length memory₀) × ((length out ≡ length out₀) × Going script count k t memory)
+
+abbrev μ-loop : tie.MeasureT-loop
+μ-loop script memory₀ out₀ count t₀ written₀ k₀ memory out t written k = count - k
+
+head-of-requires : tie.Need-head-of-requires Inv-loop μ-loop
+head-of-requires c κs = good-head (c .before .before .before .args .script .now) (c .before .before .before .pre .0) .0
+
+new-requires : tie.Need-new-requires Inv-loop μ-loop
+new-requires c κs = search needs
+
+cast-count : tie.Need-cast-count Inv-loop μ-loop
+cast-count c = search needs
+
+loop-holds : tie.Need-loop-holds Inv-loop μ-loop
+loop-holds c =
+    let made = c .before .before in
+    let i = made .before .before .before .before .before in
+    (refl, (refl, going-begins (i .args .script .now) (made .before .head-of .result) (made .new .result .target) (i .args .memory .now) (made .before .head-of .ensures) (i .pre .0) (made .new .ensures .state) (i .pre .1 .0)))
+
+run-line-requires : tie.Need-run-line-requires Inv-loop μ-loop
+run-line-requires c κs =
+    let l = c .before .before .before .loop in
+    let i = c .before .before .before .before .before .before .before .before .before .before .before in
+    (good-calls (i .args .script .now) (l .k) (i .pre .0) (omega (arith, c .before .before .loop-test .taken, l .inv .1 .1 .counted)), omega (arith, i .pre .1 .1, l .inv .1 .0))
+
+slice-reshare-prefix-write-line : tie.Need-slice-reshare-prefix-write-line Inv-loop μ-loop
+slice-reshare-prefix-write-line c = c .before .before .before .before .before .run-line .ensures .inside
+
+slice-aggregate-write-line : tie.Need-slice-aggregate-write-line Inv-loop μ-loop
+slice-aggregate-write-line c = simp length-take (omega (arith, c .before .before .before .before .before .before .run-line .ensures .inside))
+
+write-line-requires : tie.Need-write-line-requires Inv-loop μ-loop
+write-line-requires c κs =
+    let ran = c .before .before .before .before .before .before in
+    let l = ran .before .before .before .before .loop in
+    let i = ran .before .before .before .before .before .before .before .before .before .before .before .before in
+    going-line (i .args .script .now) _ (l .k) (l .t) (l .memory) (l .inv .1 .1) _ (ran .before .before .before .loop-test .taken) (ran .run-line .ensures .line)
+
+add-k : tie.Need-add-k Inv-loop μ-loop
+add-k c = search needs
+
+loop-less : tie.Need-loop-less Inv-loop μ-loop
+loop-less c =
+    let l = c .before .before .before .before .before .before .before .before .before .before in
+    let more = l .loop-test .taken in
+    omega (arith, more)
+
+loop-again : tie.Need-loop-again Inv-loop μ-loop
+loop-again c =
+    let ran = c .before .before .before .before .before .before .before in
+    let l = ran .before .before .before .before .loop in
+    let i = ran .before .before .before .before .before .before .before .before .before .before .before .before in
+    let step = ran .run-line in
+    (step .kept .1 .0 ∙ l .inv .0, (step .kept .1 .1 .1 .1 .0 ∙ l .inv .1 .0, going-on (i .args .script .now) _ (l .k) (l .t) (l .memory) (l .inv .1 .1) (step .result) _ _ (ran .before .before .before .loop-test .taken) (step .ensures)))
+
+same-length : tie.Need-same-length Inv-loop μ-loop
+same-length c = c .before .loop .inv .0
+
+same-length-2 : tie.Need-same-length-2 Inv-loop μ-loop
+same-length-2 c = c .before .loop .inv .1 .0
+
+returns : tie.Need-returns Inv-loop μ-loop
+returns c =
+    let l = c .before .loop in
+    let i = c .before .before .before .before .before .before .before .before .before in
+    going-ends (i .args .script .now) _ (l .k) (l .t) (l .memory) (l .inv .1 .1) (c .loop-test .left)
+
+pub run-lines-spec : {M : Type 1} → statement M
+run-lines-spec =
+    tie.close
+    (tie.spec
+    Inv-loop
+    μ-loop
+    head-of-requires
+    new-requires
+    cast-count
+    loop-holds
+    run-line-requires
+    slice-reshare-prefix-write-line
+    slice-aggregate-write-line
+    write-line-requires
+    add-k
+    loop-less
+    loop-again
+    same-length
+    same-length-2
+    returns)

@@ -1,0 +1,23 @@
+use mathlib.Core.Path.{refl}
+use Rattle.script.proofs.RunLaws.{ran}
+use borrow.Author.Needs.{needs}
+use Rattle.script.proofs.run.run_append.Statement.{statement}
+use Rattle.script.proofs.run.run_append.Tie as tie
+
+append-requires : tie.Need-append-requires
+append-requires c κs = search needs
+
+append-said-requires : tie.Need-append-said-requires
+append-said-requires c κs = search needs
+
+same-length : tie.Need-same-length
+same-length c = search needs
+
+returns : tie.Need-returns
+returns c =
+    let printed = c .before .before .before in
+    let called = printed .before .before in
+    ran _ _ (called .before .before .args .k) _ _ _ (called .append .ensures .outcome) refl (printed .append-said .ensures)
+
+pub run-append-spec : {M : Type 1} → statement M
+run-append-spec = tie.close (tie.spec append-requires append-said-requires same-length returns)

@@ -1,0 +1,46 @@
+use Rattle.state.specs.Soundness.{seen}
+use mathlib.Core.Path.{_≡_, sym, subst}
+use mathlib.Core.Bool.{true}
+use Rattle.reader.specs.Judging.{wellFormed}
+use Rattle.reader.specs.declared.contents.Line.{Line}
+use Rattle.script.proofs.RunLaws.{line-ran}
+use native.Mathlib.Omega.{arith}
+use borrow.Author.Needs.{needs}
+use Rattle.script.proofs.run.run_line.Statement.{statement}
+use Rattle.script.proofs.run.run_line.Tie as tie
+
+line-at-requires : tie.Need-line-at-requires
+line-at-requires c κs = search needs
+
+run-call-requires : tie.Need-run-call-requires
+run-call-requires c κs =
+    let i = c .before .before .before .before .before .before in
+    (subst (λ (l : Line). wellFormed (i .args .script .now) l ≡ true) (sym (c .before .before .line-at .ensures)) (i .pre .0), omega (arith, i .pre .1))
+
+put-byte-requires : tie.Need-put-byte-requires
+put-byte-requires c κs = search needs
+
+same-length : tie.Need-same-length
+same-length c = search needs
+
+same-length-2 : tie.Need-same-length-2
+same-length-2 c = search needs
+
+returns : tie.Need-returns
+returns c =
+    let ended = c .before .before .before in
+    let called = ended .before .before .before .before .before .before in
+    let line = called .before .before .before in
+    let i = line .before .before .before .before in
+    line-ran (i .args .script .now) (line .line-at .result) (seen (i .args .t)) (i .args .memory .now) (i .args .k) _ _ (called .run-call .result) _ _ _ (line .line-at .ensures) (called .run-call .ensures) (ended .put-byte .ensures) (omega (arith, i .pre .1, called .run-call .kept, called .run-call .ensures .stepping .line .next, called .run-call .ensures .stepping .line .short, ended .put-byte .kept, ended .put-byte .ensures .next))
+
+pub run-line-spec : {M : Type 1} → statement M
+run-line-spec =
+    tie.close
+    (tie.spec
+    line-at-requires
+    run-call-requires
+    put-byte-requires
+    same-length
+    same-length-2
+    returns)

@@ -1,0 +1,23 @@
+use mathlib.Core.Path.{refl}
+use Rattle.script.proofs.RunLaws.{ran}
+use borrow.Author.Needs.{needs}
+use Rattle.script.proofs.run.run_search.Statement.{statement}
+use Rattle.script.proofs.run.run_search.Tie as tie
+
+search-requires : tie.Need-search-requires
+search-requires c κs = search needs
+
+search-said-requires : tie.Need-search-said-requires
+search-said-requires c κs = search needs
+
+same-length : tie.Need-same-length
+same-length c = search needs
+
+returns : tie.Need-returns
+returns c =
+    let printed = c .before .before .before in
+    let called = printed .before .before in
+    ran _ _ (called .before .before .args .k) _ _ _ (called .search .ensures .outcome) refl (printed .search-said .ensures)
+
+pub run-search-spec : {M : Type 1} → statement M
+run-search-spec = tie.close (tie.spec search-requires search-said-requires same-length returns)

@@ -1,0 +1,24 @@
+use mathlib.Core.Path.{refl}
+use Rattle.script.proofs.RunLaws.{ran}
+use borrow.Author.Needs.{needs}
+use Rattle.script.proofs.run.run_set_counter.Statement.{statement}
+use Rattle.script.proofs.run.run_set_counter.Tie as tie
+
+set-counter-requires : tie.Need-set-counter-requires
+set-counter-requires c κs = search needs
+
+plain-said-requires : tie.Need-plain-said-requires
+plain-said-requires c κs = search needs
+
+same-length : tie.Need-same-length
+same-length c = search needs
+
+returns : tie.Need-returns
+returns c =
+    let printed = c .before .before .before in
+    let called = printed .before .before in
+    ran _ _ (called .before .before .args .k) _ _ _ (called .set-counter .ensures .outcome) refl (printed .plain-said .ensures)
+
+pub run-set-counter-spec : {M : Type 1} → statement M
+run-set-counter-spec =
+    tie.close (tie.spec set-counter-requires plain-said-requires same-length returns)

@@ -1,0 +1,212 @@
+// Document 01, "Script and printout": one call of a script, run and printed.
+use matching::layout::Entry;
+use matching::layout::Request;
+use portals::append;
+use portals::counters;
+use portals::events;
+use portals::put_get;
+use portals::registers;
+use portals::search;
+use portals::unlink;
+use printer::said;
+use reader::calls;
+use reader::calls::Call;
+use reader::contents;
+use reader::contents::Line;
+use state::layout::CounterChange;
+use state::layout::Target;
+use text::writing;
+ghost use mathlib.Core.Path.{_≡_};
+ghost use mathlib.Core.Bool.{true};
+ghost use mathlib.Core.List.{[]};
+ghost use Prim.Native.Nat.{_≤_};
+ghost use lib.ListN.{length, replicate};
+ghost use Rattle.reader.specs.Calls.{callKind, callOf};
+ghost use Rattle.reader.specs.Contents.{lineAt};
+ghost use Rattle.reader.specs.Judging.{MEMORY, wellFormed};
+ghost use Rattle.state.specs.Soundness.{seen};
+ghost use Rattle.script.specs.Calls.{appended, unlinked, searched, putDone, getDone, eventRead, counterRead, counterSet, counterIncremented, registerRead, called};
+ghost use Rattle.script.specs.Printout.{callAt};
+ghost use Rattle.script.specs.Promises.{TEXT, LINE, Ran, GetRan, PutRan, CallRan, LineRan};
+
+// The state that a call leaves, and how many bytes of its line are in the buffer.
+pub struct Stepped {
+    pub target: Target,
+    pub length: usize,
+}
+
+fn run_append(t: Target, e: Entry, k: usize, out: &mut [u8]) -> Stepped
+    requires { ⌜ TEXT ≤ length (now out) ⌝ }
+    ensures { λ r. ⌜ Ran (appended (seen t) e) k (now (out .entry)) r (now (out .exit)) ⌝ }
+{
+    let d = append::append(t, e);
+    let answer = d.answer;
+    let length = said::append_said(out, k, answer);
+    let target = d.target;
+    Stepped { target, length }
+}
+
+fn run_unlink(t: Target, handle: u32, k: usize, out: &mut [u8]) -> Stepped
+    requires { ⌜ TEXT ≤ length (now out) ⌝ }
+    ensures { λ r. ⌜ Ran (unlinked (seen t) handle) k (now (out .entry)) r (now (out .exit)) ⌝ }
+{
+    let d = unlink::unlink(t, handle);
+    let answer = d.answer;
+    let length = said::plain_said(out, k, answer);
+    let target = d.target;
+    Stepped { target, length }
+}
+
+fn run_search(t: Target, e: Entry, k: usize, out: &mut [u8]) -> Stepped
+    requires { ⌜ TEXT ≤ length (now out) ⌝ }
+    ensures { λ r. ⌜ Ran (searched (seen t) e) k (now (out .entry)) r (now (out .exit)) ⌝ }
+{
+    let d = search::search(t, e);
+    let answer = d.answer;
+    let length = said::search_said(out, k, answer);
+    let target = d.target;
+    Stepped { target, length }
+}
+
+fn run_put(
+    t: Target,
+    memory: &mut [u8],
+    q: Request,
+    payload: &[u8],
+    k: usize,
+    out: &mut [u8],
+) -> Stepped
+    requires { ⌜ TEXT ≤ length (now out) ⌝ }
+    ensures { λ r. ⌜ PutRan (putDone (seen t) (now (memory .entry)) q (now (payload .entry))) k (now (out .entry)) r (now (memory .exit)) (now (out .exit)) ⌝ }
+{
+    let d = put_get::put(t, memory, q, payload);
+    let answer = d.answer;
+    let length = said::request_said(out, k, answer);
+    let target = d.target;
+    Stepped { target, length }
+}
+
+// A get with a reply buffer.
+fn run_get_into(
+    t: Target,
+    memory: &[u8],
+    q: Request,
+    reply: &mut [u8],
+    k: usize,
+    out: &mut [u8],
+) -> Stepped
+    requires { ⌜ (length (now reply) ≤ MEMORY) × (TEXT ≤ length (now out)) ⌝ }
+    ensures { λ r. ⌜ GetRan (getDone (seen t) (now (memory .entry)) q (now (reply .entry))) k (now (out .entry)) r (now (out .exit)) ⌝ }
+{
+    let d = put_get::get(t, memory, q, reply);
+    let answer = d.answer;
+    let a = said::request_said(out, k, answer);
+    let length = said::put_reply(out, a, answer, reply);
+    let target = d.target;
+    Stepped { target, length }
+}
+
+// 16,384 zero bytes.
+pub fn zero_bytes() -> [u8; 16384]
+    ensures { λ r. ⌜ r ≡ replicate MEMORY 0 ⌝ }
+{
+    [0u8; 16384]
+}
+
+// A get for so many bytes. Its reply buffer is all zero before.
+fn run_get(t: Target, memory: &[u8], q: Request, asked: usize, k: usize, out: &mut [u8]) -> Stepped
+    requires { ⌜ (asked ≤ MEMORY) × (TEXT ≤ length (now out)) ⌝ }
+    ensures { λ r. ⌜ GetRan (getDone (seen t) (now (memory .entry)) q (replicate asked 0)) k (now (out .entry)) r (now (out .exit)) ⌝ }
+{
+    let mut reply = zero_bytes();
+    run_get_into(t, memory, q, &mut reply[..asked], k, out)
+}
+
+fn run_read_event(t: Target, k: usize, out: &mut [u8]) -> Stepped
+    requires { ⌜ TEXT ≤ length (now out) ⌝ }
+    ensures { λ r. ⌜ Ran (eventRead (seen t)) k (now (out .entry)) r (now (out .exit)) ⌝ }
+{
+    let d = events::read_event(t);
+    let answer = d.answer;
+    let length = said::event_said(out, k, answer);
+    let target = d.target;
+    Stepped { target, length }
+}
+
+fn run_set_counter(t: Target, x: CounterChange, k: usize, out: &mut [u8]) -> Stepped
+    requires { ⌜ TEXT ≤ length (now out) ⌝ }
+    ensures { λ r. ⌜ Ran (counterSet (seen t) x) k (now (out .entry)) r (now (out .exit)) ⌝ }
+{
+    let d = counters::set_counter(t, x);
+    let answer = d.answer;
+    let length = said::plain_said(out, k, answer);
+    let target = d.target;
+    Stepped { target, length }
+}
+
+fn run_increment(t: Target, x: CounterChange, k: usize, out: &mut [u8]) -> Stepped
+    requires { ⌜ TEXT ≤ length (now out) ⌝ }
+    ensures { λ r. ⌜ Ran (counterIncremented (seen t) x) k (now (out .entry)) r (now (out .exit)) ⌝ }
+{
+    let d = counters::increment(t, x);
+    let answer = d.answer;
+    let length = said::plain_said(out, k, answer);
+    let target = d.target;
+    Stepped { target, length }
+}
+
+fn run_read_counter(t: Target, n: u64, k: usize, out: &mut [u8]) -> Stepped
+    requires { ⌜ TEXT ≤ length (now out) ⌝ }
+    ensures { λ r. ⌜ Ran (counterRead (seen t) n) k (now (out .entry)) r (now (out .exit)) ⌝ }
+{
+    let answer = counters::read_counter(t, n);
+    let length = said::counter_said(out, k, answer);
+    Stepped { target: t, length }
+}
+
+fn run_read_register(t: Target, n: u64, k: usize, out: &mut [u8]) -> Stepped
+    requires { ⌜ TEXT ≤ length (now out) ⌝ }
+    ensures { λ r. ⌜ Ran (registerRead (seen t) n) k (now (out .entry)) r (now (out .exit)) ⌝ }
+{
+    let answer = registers::read_register(t, n);
+    let length = said::register_said(out, k, answer);
+    Stepped { target: t, length }
+}
+
+// Runs the call of a line of the contents. A put's payload is handed on as a part of the script.
+fn run_call(
+    t: Target,
+    memory: &mut [u8],
+    script: &[u8],
+    l: Line,
+    k: usize,
+    out: &mut [u8],
+) -> Stepped
+    requires { ⌜ (wellFormed (now script) l ≡ true) × (TEXT ≤ length (now out)) ⌝ }
+    ensures { λ r. ⌜ CallRan (called (now (script .entry)) (callOf (callKind (l .kind)) (now (script .entry)) l) (seen t) (now (memory .entry))) k (now (out .entry)) r (now (memory .exit)) (now (out .exit)) ⌝ }
+{
+    match calls::call_of(script, l) {
+        Call::Append(e) => run_append(t, e, k, out),
+        Call::Unlink(handle) => run_unlink(t, handle, k, out),
+        Call::Put { request, from, end } => run_put(t, memory, request, &script[from..end], k, out),
+        Call::Get { request, length } => run_get(t, memory, request, length, k, out),
+        Call::ReadEvent => run_read_event(t, k, out),
+        Call::ReadCounter(n) => run_read_counter(t, n, k, out),
+        Call::SetCounter(x) => run_set_counter(t, x, k, out),
+        Call::Increment(x) => run_increment(t, x, k, out),
+        Call::Search(e) => run_search(t, e, k, out),
+        Call::ReadRegister(n) => run_read_register(t, n, k, out),
+    }
+}
+
+// Runs call k of a script, and ends its line.
+pub fn run_line(t: Target, memory: &mut [u8], script: &[u8], k: usize, out: &mut [u8]) -> Stepped
+    requires { ⌜ (wellFormed (now script) (lineAt (now script) k) ≡ true) × (LINE ≤ length (now out)) ⌝ }
+    ensures { λ r. ⌜ LineRan (called (now (script .entry)) (callAt (now (script .entry)) k) (seen t) (now (memory .entry))) k r (now (memory .exit)) (now (out .exit)) ⌝ }
+{
+    let l = contents::line_at(script, k);
+    let s = run_call(t, memory, script, l, k, out);
+    let length = writing::put_byte(out, s.length, b'\n');
+    let target = s.target;
+    Stepped { target, length }
+}
