@@ -13,7 +13,7 @@ use Rattle.state.specs.declared.layout.CounterChange.{CounterChange}
 use Rattle.state.proofs.ListLaws.{both}
 use Rattle.reader.specs.Numbers.{numberAt, byteAt}
 use Rattle.reader.specs.Calls.{callKind, entryAt, requestAt, lengthAt, changeAt, callOf}
-use Rattle.reader.specs.Judging.{MEMORY, knownKind, requestZeros, goodEntry, goodPut, goodGet, goodBody, wellFormed}
+use Rattle.reader.specs.Judging.{SCRIPT-MEMORY, knownKind, requestZeros, goodEntry, goodPut, goodGet, goodBody, wellFormed}
 use Rattle.reader.specs.declared.contents.Line.{Line}
 use Rattle.reader.specs.declared.calls.CallKind.{CallKind}
 use Rattle.reader.specs.declared.calls.CallKind.the-variants as CallKind
@@ -118,7 +118,7 @@ module _ (s : List ℕ) (l : Line) where
       → zeros ≡ requestZeros s (l .place)
       → hdrdata ≡ numberAt s (l .place + 40) 8
       → len ≡ lengthAt s (l .place)
-      → (zeros && eqb (byteAt s (l .place + 1)) 0 && eqb hdrdata 0 && leb len MEMORY) ≡ goodGet s l
+      → (zeros && eqb (byteAt s (l .place + 1)) 0 && eqb hdrdata 0 && leb len SCRIPT-MEMORY) ≡ goodGet s l
   unfolding requestAt
   get-tested good zeros hdrdata len is d e = rw (eq-eqb _ _ good, is, d, e, requestAt)
 
@@ -172,12 +172,12 @@ module _ (s : List ℕ) (l : Line) where
   long-enough CallKind.ReadRegister good = exactly 1 good
 
 -- a get's body says a length in bounds
-pub get-short : (s : List ℕ) (l : Line) → goodGet s l ≡ true → lengthAt s (l .place) ≤ MEMORY
+pub get-short : (s : List ℕ) (l : Line) → goodGet s l ≡ true → lengthAt s (l .place) ≤ SCRIPT-MEMORY
 get-short s l good =
     let at = l .place in
     let zeros = requestZeros s at && eqb (requestAt s at .ack) 0 && eqb (requestAt s at .hdrdata) 0 in
-    let rest = both (eqb (l .length) 48) (zeros && leb (lengthAt s at) MEMORY) good .1 in
-    leb-true _ _ (both zeros (leb (lengthAt s at) MEMORY) rest .1)
+    let rest = both (eqb (l .length) 48) (zeros && leb (lengthAt s at) SCRIPT-MEMORY) good .1 in
+    leb-true _ _ (both zeros (leb (lengthAt s at) SCRIPT-MEMORY) rest .1)
 
 -- `kind`: what the number in the line was found to stand for
 module _ (s : List ℕ) (l : Line) (found kind : CallKind) (is-found : found ≡ callKind (l .kind)) (is : found ≡ kind) where

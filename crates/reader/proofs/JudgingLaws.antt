@@ -11,7 +11,7 @@ use lib.ListN.{length}
 use Rattle.state.proofs.ListLaws.{both}
 use Rattle.reader.specs.Contents.{HEAD, CALLS, headOf, lineAt, bodyLengths}
 use Rattle.reader.specs.Calls.{callKind, lengthAt}
-use Rattle.reader.specs.Judging.{FILE, MEMORY, goodFields, bodiesStart, goodSize, goodHead, knownKind, goodBody, wellFormed, goodLine, firstBad, verdictOf}
+use Rattle.reader.specs.Judging.{FILE, SCRIPT-MEMORY, goodFields, bodiesStart, goodSize, goodHead, knownKind, goodBody, wellFormed, goodLine, firstBadCall, verdictOf}
 use Rattle.reader.specs.declared.contents.Head.{Head}
 use Rattle.reader.specs.declared.contents.Line.{Line}
 use Rattle.reader.specs.declared.calls.CallKind.{CallKind}
@@ -24,13 +24,13 @@ use Rattle.reader.proofs.CallLaws.{body-inside, body-good, long-enough,
 
 -- what fields in bounds say
 module _ (h : Head) (good : goodFields h ≡ true) where
-  fields : ((leb (h .count) CALLS && eqb (h .reserved) 0) ≡ true) × (leb (h .memory) MEMORY ≡ true)
-  fields = both (leb (h .count) CALLS && eqb (h .reserved) 0) (leb (h .memory) MEMORY) good
+  fields : ((leb (h .count) CALLS && eqb (h .reserved) 0) ≡ true) × (leb (h .memory) SCRIPT-MEMORY ≡ true)
+  fields = both (leb (h .count) CALLS && eqb (h .reserved) 0) (leb (h .memory) SCRIPT-MEMORY) good
 
   pub few-calls : h .count ≤ CALLS
   few-calls = leb-true _ _ (both (leb (h .count) CALLS) (eqb (h .reserved) 0) (fields .0) .0)
 
-  memory-small : h .memory ≤ MEMORY
+  memory-small : h .memory ≤ SCRIPT-MEMORY
   memory-small = leb-true _ _ (fields .1)
 
 -- a bound on what a file of n bytes has after its first b bytes, as one on all of it
@@ -120,23 +120,23 @@ line-ends s at l good =
 -- ## The lines one after the other
 
 lines-more : (s : List ℕ) (count i at : ℕ) → i < count
-    → firstBad s (count - i) i at
-    ≡ cond (goodLine s at (lineAt s i)) (firstBad s (count - (i + 1)) (i + 1) (at + lineAt s i .length)) (Verdict.BadCall i)
-unfolding firstBad
+    → firstBadCall s (count - i) i at
+    ≡ cond (goodLine s at (lineAt s i)) (firstBadCall s (count - (i + 1)) (i + 1) (at + lineAt s i .length)) (Verdict.BadCall i)
+unfolding firstBadCall
 lines-more s count i at more =
     let rest : count - i ≡ suc (count - (i + 1)) = omega arith in
     rw (rest, add-one i) refl
 
-pub lines-begin : (s : List ℕ) (count : ℕ) → firstBad s count 0 (bodiesStart count) ≡ firstBad s (count - 0) 0 (bodiesStart count)
+pub lines-begin : (s : List ℕ) (count : ℕ) → firstBadCall s count 0 (bodiesStart count) ≡ firstBadCall s (count - 0) 0 (bodiesStart count)
 lines-begin s count =
     let all : count - 0 ≡ count = omega arith in
     rw all
 
 -- `verdict`: the lines before line i are good, and the bodies of the others are to begin at a place
-module _ (s : List ℕ) (count i at : ℕ) (verdict : Verdict) (left : verdict ≡ firstBad s (count - i) i at) where
+module _ (s : List ℕ) (count i at : ℕ) (verdict : Verdict) (left : verdict ≡ firstBadCall s (count - i) i at) where
   -- this one is good
   pub line-good : (l : Line) (good : Bool) → i < count → l ≡ lineAt s i → good ≡ goodLine s at l → good ≡ true
-      → verdict ≡ firstBad s (count - (i + 1)) (i + 1) (at + l .length)
+      → verdict ≡ firstBadCall s (count - (i + 1)) (i + 1) (at + l .length)
   line-good l good more is tested e = left ∙ lines-more s count i at more ∙ rw (← is, ← tested, e)
 
   -- this one is bad
@@ -145,7 +145,7 @@ module _ (s : List ℕ) (count i at : ℕ) (verdict : Verdict) (left : verdict �
 
   -- there is none left
   pub lines-end : count ≤ i → verdict ≡ Verdict.Good
-  unfolding firstBad
+  unfolding firstBadCall
   lines-end all =
       let rest : count - i ≡ 0 = omega arith in
       left ∙ rw rest
@@ -157,7 +157,7 @@ module _ (s : List ℕ) where
   unfolding verdictOf
   judged-head bad = rw bad
 
-  pub judged-calls : (h : Head) → goodHead s ≡ true → h ≡ headOf s → verdictOf s ≡ firstBad s (h .count) 0 (bodiesStart (h .count))
+  pub judged-calls : (h : Head) → goodHead s ≡ true → h ≡ headOf s → verdictOf s ≡ firstBadCall s (h .count) 0 (bodiesStart (h .count))
   unfolding verdictOf
   judged-calls h good is = rw (is, good)
 
@@ -175,16 +175,16 @@ call-not-good : (i : ℕ) → Verdict.BadCall i ≡ Verdict.Good → ⊥
 call-not-good i e = let z : _≡_ {A = ℕ} 0 1 = cc in omega arith
 
 -- a line that is good, before others that are
-line-and-rest : (s : List ℕ) (m i at : ℕ) → firstBad s (suc m) i at ≡ Verdict.Good
-    → (wellFormed s (lineAt s i) ≡ true) × (firstBad s m (suc i) (at + lineAt s i .length) ≡ Verdict.Good)
-unfolding firstBad
+line-and-rest : (s : List ℕ) (m i at : ℕ) → firstBadCall s (suc m) i at ≡ Verdict.Good
+    → (wellFormed s (lineAt s i) ≡ true) × (firstBadCall s m (suc i) (at + lineAt s i .length) ≡ Verdict.Good)
+unfolding firstBadCall
 line-and-rest s m i at good =
     let l = lineAt s i in
-    let (line, rest) = passed (goodLine s at l) (firstBad s m (suc i) (at + l .length)) (Verdict.BadCall i) (call-not-good i) good in
+    let (line, rest) = passed (goodLine s at l) (firstBadCall s m (suc i) (at + l .length)) (Verdict.BadCall i) (call-not-good i) good in
     (both (wellFormed s l) (eqb (l .place) at) line .0, rest)
 
 -- each of m lines from line i on is well formed
-lines-formed : (s : List ℕ) (m i at k : ℕ) → firstBad s m i at ≡ Verdict.Good → k < m → wellFormed s (lineAt s (i + k)) ≡ true
+lines-formed : (s : List ℕ) (m i at k : ℕ) → firstBadCall s m i at ≡ Verdict.Good → k < m → wellFormed s (lineAt s (i + k)) ≡ true
 lines-formed s zero i at k good inside = absurd (omega arith)
 lines-formed s (suc m) i at zero good inside =
     let this : i + 0 ≡ i = omega arith in
@@ -194,10 +194,10 @@ lines-formed s (suc m) i at (suc k) good inside =
     rw next (lines-formed s m (suc i) (at + lineAt s i .length) k (line-and-rest s m i at good .1) (omega arith))
 
 judged-good : (s : List ℕ) → verdictOf s ≡ Verdict.Good
-    → (goodHead s ≡ true) × (firstBad s (headOf s .count) 0 (bodiesStart (headOf s .count)) ≡ Verdict.Good)
+    → (goodHead s ≡ true) × (firstBadCall s (headOf s .count) 0 (bodiesStart (headOf s .count)) ≡ Verdict.Good)
 unfolding verdictOf
 judged-good s good =
-    passed (goodHead s) (firstBad s (headOf s .count) 0 (bodiesStart (headOf s .count))) Verdict.BadHead head-not-good good
+    passed (goodHead s) (firstBadCall s (headOf s .count) 0 (bodiesStart (headOf s .count))) Verdict.BadHead head-not-good good
 
 -- the head is whole and its fields are in bounds
 pub good-head : (s : List ℕ) → verdictOf s ≡ Verdict.Good → (8 ≤ length s) × ((headOf s .count ≤ 1024) × (headOf s .memory ≤ 16384))

@@ -1,5 +1,5 @@
 -- Document 01, "Script and printout": which files are bad, and where.
-use Prim.Native.Nat.{ℕ, zero, suc, _+_, _*_}
+use Prim.Native.Nat.{ℕ, zero, suc, _+_}
 use mathlib.Core.Bool.{Bool, cond, _&&_}
 use mathlib.Core.List.{List}
 use lib.Dec.{leb, eqb}
@@ -19,14 +19,14 @@ abbrev pub FILE : ℕ
 FILE = 32768
 
 -- "memory u32 (at most 16,384 here)"; "A get's length is at most 16,384."
-abbrev pub MEMORY : ℕ
-MEMORY = 16384
+abbrev pub SCRIPT-MEMORY : ℕ
+SCRIPT-MEMORY = 16384
 
 -- ## The head
 
 -- not: "a head field out of bounds"
 abbrev pub goodFields : Head → Bool
-goodFields h = leb (h .count) CALLS && eqb (h .reserved) 0 && leb (h .memory) MEMORY
+goodFields h = leb (h .count) CALLS && eqb (h .reserved) 0 && leb (h .memory) SCRIPT-MEMORY
 
 -- head and contents, for so many calls; there the bodies begin
 abbrev pub bodiesStart : ℕ → ℕ
@@ -67,7 +67,7 @@ goodGet s l =
     && (requestZeros s (l .place)
     && eqb (requestAt s (l .place) .ack) 0
     && eqb (requestAt s (l .place) .hdrdata) 0
-    && leb (lengthAt s (l .place)) MEMORY)
+    && leb (lengthAt s (l .place)) SCRIPT-MEMORY)
 
 -- not: "a zero that is not, a body of wrong length .., or a get too long", by the kind of call
 abbrev pub goodBody : CallKind → List ℕ → Line → Bool
@@ -97,12 +97,12 @@ goodLine s at l = wellFormed s l && eqb (l .place) at
 -- ## The file
 
 -- of m lines from line i on, whose bodies are to begin at a place: "n the first bad call from 0"
-unfoldable pub firstBad : List ℕ → ℕ → ℕ → ℕ → Verdict
-firstBad s zero i at = Verdict.Good
-firstBad s (suc m) i at =
-    cond (goodLine s at (lineAt s i)) (firstBad s m (suc i) (at + lineAt s i .length)) (Verdict.BadCall i)
+unfoldable pub firstBadCall : List ℕ → ℕ → ℕ → ℕ → Verdict
+firstBadCall s zero i at = Verdict.Good
+firstBadCall s (suc m) i at =
+    cond (goodLine s at (lineAt s i)) (firstBadCall s m (suc i) (at + lineAt s i .length)) (Verdict.BadCall i)
 
 -- "HEAD, tested first"
 unfoldable pub verdictOf : List ℕ → Verdict
 verdictOf s =
-    cond (goodHead s) (firstBad s (headOf s .count) 0 (bodiesStart (headOf s .count))) Verdict.BadHead
+    cond (goodHead s) (firstBadCall s (headOf s .count) 0 (bodiesStart (headOf s .count))) Verdict.BadHead

@@ -11,7 +11,7 @@ ghost use Prim.Native.Nat.{_+_, _≤_};
 ghost use lib.ListN.{length};
 ghost use Rattle.reader.specs.Contents.{CALLS};
 ghost use Rattle.reader.specs.Calls.{callKind};
-ghost use Rattle.reader.specs.Judging.{FILE, bodiesStart, goodFields, goodHead, knownKind, requestZeros, goodEntry, goodPut, goodGet, goodBody, wellFormed, goodLine, firstBad, verdictOf};
+ghost use Rattle.reader.specs.Judging.{FILE, bodiesStart, goodFields, goodHead, knownKind, requestZeros, goodEntry, goodPut, goodGet, goodBody, wellFormed, goodLine, firstBadCall, verdictOf};
 
 pub enum Verdict {
     Good,
@@ -24,12 +24,12 @@ pub enum Verdict {
 pub const FILE: usize = 32768;
 
 // The largest memory of a script, and the longest get.
-pub const MEMORY: u32 = 16384;
+pub const SCRIPT_MEMORY: u32 = 16384;
 
 fn good_fields(h: Head) -> bool
     ensures { λ r. ⌜ r ≡ goodFields h ⌝ }
 {
-    (h.count as usize <= contents::CALLS) & (h.reserved == 0) & (h.memory <= MEMORY)
+    (h.count as usize <= contents::CALLS) & (h.reserved == 0) & (h.memory <= SCRIPT_MEMORY)
 }
 
 fn good_head(s: &[u8]) -> bool
@@ -101,7 +101,7 @@ fn good_get(s: &[u8], l: Line) -> bool
     request_zeros(s, at)
         & (s[at + 1] == 0)
         & (numbers::u64_at(s, at + 40) == 0)
-        & (numbers::u32_at(s, at + 32) <= MEMORY)
+        & (numbers::u32_at(s, at + 32) <= SCRIPT_MEMORY)
 }
 
 fn good_body(s: &[u8], l: Line) -> bool
@@ -149,7 +149,7 @@ fn good_line(s: &[u8], at: usize, l: Line) -> bool
 // The first bad call of so many, whose bodies follow the contents.
 fn first_bad(s: &[u8], count: usize) -> Verdict
     requires { ⌜ (count ≤ CALLS) × ((bodiesStart count ≤ length (now s)) × (length (now s) ≤ FILE)) ⌝ }
-    ensures { λ r. ⌜ r ≡ firstBad (now (s .entry)) count 0 (bodiesStart count) ⌝ }
+    ensures { λ r. ⌜ r ≡ firstBadCall (now (s .entry)) count 0 (bodiesStart count) ⌝ }
 {
     let mut at = contents::HEAD + 8 * count;
     let mut i: usize = 0;

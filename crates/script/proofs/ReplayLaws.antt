@@ -1,115 +1,157 @@
--- Laws of a script's lines: of the loop that runs them, and of a bad file. Assumes nothing.
-use Prim.Native.Nat.{ℕ, suc, _+_, _-_, _≤_, _<_}
+-- Laws of a printout that is handed over piece by piece. Assumes nothing.
+use Prim.Native.Nat.{ℕ, suc, _+_, _-_, _*_, _≤_, _<_}
 use mathlib.Core.Path.{_≡_, refl, sym, ap, _∙_, subst}
 use mathlib.Core.List.{List, [], _∷_, _++_}
 use native.Mathlib.Omega.{arith}
 use native.Mathlib.Numerals.{add-one}
-use lib.ListN.{length, drop, replicate, getD, length-drop}
-use lib.Seq.{drop-cons}
+use lib.ListN.{length, take, drop, replicate, length-drop, length-append}
+use lib.Seq.{take-length, take-at, drop-at, drop-drop}
 use Rattle.state.specs.Soundness.{sound, seen}
 use Rattle.state.specs.declared.layout.Target.{Target}
 use Rattle.portals.specs.Making.{new}
 use Rattle.text.specs.Text.{bytesOf, fieldsOf}
-use Rattle.reader.specs.Contents.{headOf}
-use Rattle.reader.specs.Judging.{MEMORY, verdictOf}
+use Rattle.text.specs.Writing.{Wrote}
+use Rattle.reader.specs.Contents.{CALLS, headOf}
+use Rattle.reader.specs.Judging.{SCRIPT-MEMORY, verdictOf}
 use Rattle.reader.specs.declared.contents.Head.{Head}
 use Rattle.reader.specs.declared.judging.Verdict.{Verdict}
 use Rattle.reader.specs.declared.judging.Verdict.the-variants as Verdict
 use Rattle.reader.proofs.JudgingLaws.{good-head}
-use Rattle.script.specs.Calls.{called}
-use Rattle.script.specs.Printout.{callAt, lineOf, linesFrom, linesBy, linesOf}
-use Rattle.script.specs.Promises.{LineRan}
+use Rattle.script.specs.Run.{called}
+use Rattle.script.specs.Printout.{callAt, linesFrom, printoutBy, printoutOf}
+use Rattle.script.specs.Promises.{LINE, LineRan, Next}
 use Rattle.script.specs.declared.run.Stepped.{Stepped}
+use Rattle.script.specs.declared.replay.Report.{Report}
 
 -- ## What is left of a list
 
-module _ {A : Type 0} (l : List A) (k : ℕ) (d x : A) (xs : List A) (e : drop k l ≡ x ∷ xs) where
-  pub left-inside : k < length l
-  left-inside =
-      let n : length l - k ≡ suc (length xs) = sym (length-drop k l) ∙ ap (λ (m : List A). length m) e in
-      omega (arith, n)
+module _ (p : List ℕ) (n : ℕ) (piece rest : List ℕ) (left : drop n p ≡ piece ++ rest) where
+  -- the piece is next
+  pub piece-next : take (length piece) (drop n p) ≡ piece
+  piece-next = rw left (take-at piece rest (length piece) refl)
 
-  pub left-first : getD l k d ≡ x
-  left-first = ap (λ (m : List A). getD m 0 d) (sym (drop-cons l k d left-inside) ∙ e)
+  -- and the rest is left behind it
+  pub rest-left : drop (n + length piece) p ≡ rest
+  rest-left = sym (drop-drop (length piece) n p) ∙ rw left (drop-at piece rest (length piece) refl)
 
-  pub left-next : drop (k + 1) l ≡ xs
-  left-next = rw add-one (ap (λ (m : List A). drop 1 m) (sym (drop-cons l k d left-inside) ∙ e))
+  pub piece-inside : n ≤ length p → n + length piece ≤ length p
+  piece-inside inside =
+      let count : length p - n ≡ length piece + length rest = sym (length-drop n p) ∙ ap (λ (l : List ℕ). length l) left ∙ length-append piece rest in
+      omega (arith, count, inside)
+
+-- where nothing is left, all was handed over
+pub none-left : (p : List ℕ) (n : ℕ) → drop n p ≡ [] → n ≤ length p → n ≡ length p
+none-left p n left inside =
+    let count : length p - n ≡ 0 = sym (length-drop n p) ∙ ap (λ (l : List ℕ). length l) left in
+    omega (arith, count, inside)
 
 -- ## The memory
 
 -- a good script's memory is a part of 16,384 bytes
-pub memory-small : (s : List ℕ) (head : Head) → head ≡ headOf s → verdictOf s ≡ Verdict.Good → head .memory ≤ MEMORY
-memory-small s head is good = subst (λ (h : Head). h .memory ≤ MEMORY) (sym is) (good-head s good .1 .1)
+pub memory-small : (s : List ℕ) (head : Head) → head ≡ headOf s → verdictOf s ≡ Verdict.Good → head .memory ≤ SCRIPT-MEMORY
+memory-small s head is good = subst (λ (h : Head). h .memory ≤ SCRIPT-MEMORY) (sym is) (good-head s good .1 .1)
 
 -- ## The loop
 
--- Before call k of so many: the lines that are left are those of the calls that are left, on this state and this memory.
-pub record Going (s : List ℕ) (count k : ℕ) (t : Target) (memory : List ℕ) : Type 0 where
+-- Before call k of so many: what is left of the printout are the lines of the calls that are left, on this state and this memory.
+pub record Going (s : List ℕ) (count k : ℕ) (done : Report) (t : Target) (memory : List ℕ) : Type 0 where
   pub counted : count ≡ headOf s .count
+  pub few : count ≤ CALLS
   pub within : k ≤ count
-  pub inside : k ≤ length (linesOf s)
-  pub left : drop k (linesOf s) ≡ linesFrom s (count - k) k (seen t) memory
+  pub inside : done .bytes ≤ length (printoutOf s)
+  pub short : done .bytes ≤ k * LINE
+  pub left : drop (done .bytes) (printoutOf s) ≡ linesFrom s (count - k) k (seen t) memory
 
 pub going-begins :
-    (s : List ℕ) (head : Head) (t : Target) (memory : List ℕ)
+    (s : List ℕ) (head : Head) (begun : Report) (t : Target) (memory : List ℕ)
     → head ≡ headOf s
     → verdictOf s ≡ Verdict.Good
+    → begun .bytes ≡ 0
     → seen t ≡ sound (new (record { size = head .memory }) .state)
     → memory ≡ replicate (headOf s .memory) 0
-    → Going s (head .count) 0 t memory
-unfolding linesOf
-going-begins s head t memory is good made zeros =
-    let all : headOf s .count - 0 ≡ headOf s .count = omega arith in record {
+    → Going s (head .count) 0 begun t memory
+unfolding printoutOf
+going-begins s head begun t memory is good none made zeros =
+    let all : headOf s .count - 0 ≡ headOf s .count = omega arith in
+    record {
       counted = ap (λ (h : Head). h .count) is;
+      few = subst (λ (h : Head). h .count ≤ CALLS) (sym is) (good-head s good .1 .0);
       within = omega arith;
-      inside = omega arith;
-      left = rw (good, made, zeros, is, all) refl;
+      inside = rw none (omega arith);
+      short = rw none (omega arith);
+      left = rw (none, good, made, zeros, is, all) refl;
     }
 
-module _ (s : List ℕ) (count k : ℕ) (t : Target) (memory : List ℕ) (g : Going s count k t memory) where
-  first-left :
-      k < count
-      → drop k (linesOf s)
-      ≡ lineOf k (called s (callAt s k) (seen t) memory)
-      ∷ linesFrom s (count - (k + 1)) (k + 1) (called s (callAt s k) (seen t) memory .state) (called s (callAt s k) (seen t) memory .memory)
-  unfolding linesFrom
-  first-left more =
+module _
+    (s : List ℕ) (count k : ℕ) (done : Report) (t : Target) (memory : List ℕ) (g : Going s count k done t memory)
+    (r : Stepped) (memory′ out′ : List ℕ) (more : k < count) (ran : LineRan (called (callAt s k) (seen t) memory) k r memory′ out′) where
+  line : List ℕ
+  line = take (r .length) out′
+
+  rest : List ℕ
+  rest = linesFrom s (count - (k + 1)) (k + 1) (seen (r .target)) memory′
+
+  first-left : drop (done .bytes) (printoutOf s) ≡ line ++ rest
+  unfolding linesFrom line rest
+  first-left =
       let n : count - k ≡ suc (count - (k + 1)) = omega arith in
-      g .left ∙ rw (n, linesFrom, ← add-one k) refl
+      g .left ∙ rw (n, linesFrom, ← add-one k, ran .line, ran .state, ran .memory) refl
 
-  -- the line of call k is line k of the printout
-  pub going-line :
-      (line : List ℕ) → k < count → line ≡ lineOf k (called s (callAt s k) (seen t) memory) → line ≡ getD (linesOf s) k []
-  going-line line more e = e ∙ sym (left-first (linesOf s) k [] _ _ (first-left more))
-
-  pub going-on :
-      (r : Stepped) (memory′ out′ : List ℕ)
-      → k < count
-      → LineRan (called s (callAt s k) (seen t) memory) k r memory′ out′
-      → Going s count (k + 1) (r .target) memory′
-  going-on r memory′ out′ more ran = record {
-    counted = g .counted;
-    within = omega arith;
-    inside = omega (arith, left-inside (linesOf s) k [] _ _ (first-left more));
-    left = left-next (linesOf s) k [] _ _ (first-left more) ∙ rw (ran .state, ran .memory) refl;
+  -- the line of call k may be handed over next
+  pub going-next : length (take (r .length) out′) ≡ r .length → Next s done (take (r .length) out′)
+  unfolding line
+  going-next e = record {
+    next = piece-next (printoutOf s) (done .bytes) line rest first-left;
+    room = omega (arith, e, ran .short, g .short, g .few, more);
   }
 
-  -- no call is left, and no line
-  pub going-ends : count ≤ k → k ≡ length (linesOf s)
-  unfolding linesFrom
-  going-ends last =
-      let n : count - k ≡ 0 = omega arith in
-      let none : drop k (linesOf s) ≡ [] = g .left ∙ rw (n, linesFrom) refl in
-      let rest : length (linesOf s) - k ≡ 0 = sym (length-drop k (linesOf s)) ∙ ap (λ (l : List (List ℕ)). length l) none in
-      omega (arith, rest, g .inside)
+  pub going-on : (done′ : Report) → length (take (r .length) out′) ≡ r .length → done′ .bytes ≡ done .bytes + length (take (r .length) out′) → Going s count (k + 1) done′ (r .target) memory′
+  unfolding line rest
+  going-on done′ e d = record {
+    counted = g .counted;
+    few = g .few;
+    within = omega arith;
+    inside = rw d (piece-inside (printoutOf s) (done .bytes) line rest first-left (g .inside));
+    short = omega (arith, d, e, ran .short, g .short);
+    left = rw d (rest-left (printoutOf s) (done .bytes) line rest first-left);
+  }
+
+-- no call is left, and nothing of the printout
+pub going-ends :
+    (s : List ℕ) (count k : ℕ) (done : Report) (t : Target) (memory : List ℕ)
+    → Going s count k done t memory
+    → count ≤ k
+    → done .bytes ≡ length (printoutOf s)
+unfolding linesFrom
+going-ends s count k done t memory g last =
+    let n : count - k ≡ 0 = omega arith in
+    none-left (printoutOf s) (done .bytes) (g .left ∙ rw (n, linesFrom) refl) (g .inside)
 
 -- ## A bad file
 
--- it has one line
-pub head-line : (s : List ℕ) → verdictOf s ≡ Verdict.BadHead → linesOf s ≡ bytesOf "BAD_SCRIPT HEAD\n" ∷ []
-unfolding linesOf
-head-line s bad = ap (λ (v : Verdict). linesBy v s) bad
+-- its one line
+pub head-printout : (s : List ℕ) → verdictOf s ≡ Verdict.BadHead → printoutOf s ≡ bytesOf "BAD_SCRIPT HEAD\n"
+unfolding printoutOf
+head-printout s bad = ap (λ (v : Verdict). printoutBy v s) bad
 
-pub call-line : (s : List ℕ) (n : ℕ) → verdictOf s ≡ Verdict.BadCall n → linesOf s ≡ (bytesOf "BAD_SCRIPT" ++ fieldsOf (n ∷ []) ++ bytesOf "\n") ∷ []
-unfolding linesOf
-call-line s n bad = ap (λ (v : Verdict). linesBy v s) bad
+pub call-printout : (s : List ℕ) (n : ℕ) → verdictOf s ≡ Verdict.BadCall n → printoutOf s ≡ bytesOf "BAD_SCRIPT" ++ fieldsOf (n ∷ []) ++ bytesOf "\n"
+unfolding printoutOf
+call-printout s n bad = ap (λ (v : Verdict). printoutBy v s) bad
+
+module _
+    (s : List ℕ) (begun : Report) (text b b′ : List ℕ) (n w : ℕ) (none : begun .bytes ≡ 0) (is : printoutOf s ≡ text) (small : w ≤ LINE)
+    (wrote : Wrote b 0 text w b′ n) where
+  -- written into a buffer, it may be handed over whole
+  pub whole-next : Next s begun (take n b′)
+  whole-next =
+      let line : take n b′ ≡ text = wrote .front in
+      record {
+        next = rw (none, is, line) (take-length text);
+        room = rw (none, line) (omega (arith, wrote .short, small));
+      }
+
+  -- and nothing is left
+  pub whole-done : (done : Report) → done .bytes ≡ begun .bytes + length (take n b′) → done .bytes ≡ length (printoutOf s)
+  whole-done done e =
+      let line : take n b′ ≡ text = wrote .front in
+      e ∙ rw (none, is, line) (omega arith)

@@ -1,3 +1,3 @@
-pub mod Calls
+pub mod Run
 pub mod Printout
 pub mod Promises

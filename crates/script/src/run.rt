@@ -18,16 +18,15 @@ use state::layout::Target;
 use text::writing;
 ghost use mathlib.Core.Path.{_≡_};
 ghost use mathlib.Core.Bool.{true};
-ghost use mathlib.Core.List.{[]};
 ghost use Prim.Native.Nat.{_≤_};
 ghost use lib.ListN.{length, replicate};
-ghost use Rattle.reader.specs.Calls.{callKind, callOf};
 ghost use Rattle.reader.specs.Contents.{lineAt};
-ghost use Rattle.reader.specs.Judging.{MEMORY, wellFormed};
+ghost use Rattle.reader.specs.Judging.{SCRIPT-MEMORY, wellFormed};
 ghost use Rattle.state.specs.Soundness.{seen};
-ghost use Rattle.script.specs.Calls.{appended, unlinked, searched, putDone, getDone, eventRead, counterRead, counterSet, counterIncremented, registerRead, called};
-ghost use Rattle.script.specs.Printout.{callAt};
-ghost use Rattle.script.specs.Promises.{TEXT, LINE, Ran, GetRan, PutRan, CallRan, LineRan};
+ghost use Rattle.portals.specs.Calls as Calls;
+ghost use Rattle.script.specs.Run.{called};
+ghost use Rattle.script.specs.Printout.{callBy, callAt};
+ghost use Rattle.script.specs.Promises.{TEXT, LINE, Ran, RanOn, CallRan, LineRan};
 
 // The state that a call leaves, and how many bytes of its line are in the buffer.
 pub struct Stepped {
@@ -37,7 +36,7 @@ pub struct Stepped {
 
 fn run_append(t: Target, e: Entry, k: usize, out: &mut [u8]) -> Stepped
     requires { ⌜ TEXT ≤ length (now out) ⌝ }
-    ensures { λ r. ⌜ Ran (appended (seen t) e) k (now (out .entry)) r (now (out .exit)) ⌝ }
+    ensures { λ r. ⌜ RanOn (Calls.append e) (seen t) k (now (out .entry)) r (now (out .exit)) ⌝ }
 {
     let d = append::append(t, e);
     let answer = d.answer;
@@ -48,7 +47,7 @@ fn run_append(t: Target, e: Entry, k: usize, out: &mut [u8]) -> Stepped
 
 fn run_unlink(t: Target, handle: u32, k: usize, out: &mut [u8]) -> Stepped
     requires { ⌜ TEXT ≤ length (now out) ⌝ }
-    ensures { λ r. ⌜ Ran (unlinked (seen t) handle) k (now (out .entry)) r (now (out .exit)) ⌝ }
+    ensures { λ r. ⌜ RanOn (Calls.unlink handle) (seen t) k (now (out .entry)) r (now (out .exit)) ⌝ }
 {
     let d = unlink::unlink(t, handle);
     let answer = d.answer;
@@ -59,7 +58,7 @@ fn run_unlink(t: Target, handle: u32, k: usize, out: &mut [u8]) -> Stepped
 
 fn run_search(t: Target, e: Entry, k: usize, out: &mut [u8]) -> Stepped
     requires { ⌜ TEXT ≤ length (now out) ⌝ }
-    ensures { λ r. ⌜ Ran (searched (seen t) e) k (now (out .entry)) r (now (out .exit)) ⌝ }
+    ensures { λ r. ⌜ RanOn (Calls.search e) (seen t) k (now (out .entry)) r (now (out .exit)) ⌝ }
 {
     let d = search::search(t, e);
     let answer = d.answer;
@@ -77,7 +76,7 @@ fn run_put(
     out: &mut [u8],
 ) -> Stepped
     requires { ⌜ TEXT ≤ length (now out) ⌝ }
-    ensures { λ r. ⌜ PutRan (putDone (seen t) (now (memory .entry)) q (now (payload .entry))) k (now (out .entry)) r (now (memory .exit)) (now (out .exit)) ⌝ }
+    ensures { λ r. ⌜ CallRan (called (Calls.put q (now (payload .entry))) (seen t) (now (memory .entry))) k (now (out .entry)) r (now (memory .exit)) (now (out .exit)) ⌝ }
 {
     let d = put_get::put(t, memory, q, payload);
     let answer = d.answer;
@@ -95,8 +94,8 @@ fn run_get_into(
     k: usize,
     out: &mut [u8],
 ) -> Stepped
-    requires { ⌜ (length (now reply) ≤ MEMORY) × (TEXT ≤ length (now out)) ⌝ }
-    ensures { λ r. ⌜ GetRan (getDone (seen t) (now (memory .entry)) q (now (reply .entry))) k (now (out .entry)) r (now (out .exit)) ⌝ }
+    requires { ⌜ (length (now reply) ≤ SCRIPT-MEMORY) × (TEXT ≤ length (now out)) ⌝ }
+    ensures { λ r. ⌜ Ran (called (Calls.get q (now (reply .entry))) (seen t) (now (memory .entry))) k (now (out .entry)) r (now (out .exit)) ⌝ }
 {
     let d = put_get::get(t, memory, q, reply);
     let answer = d.answer;
@@ -108,15 +107,15 @@ fn run_get_into(
 
 // 16,384 zero bytes.
 pub fn zero_bytes() -> [u8; 16384]
-    ensures { λ r. ⌜ r ≡ replicate MEMORY 0 ⌝ }
+    ensures { λ r. ⌜ r ≡ replicate SCRIPT-MEMORY 0 ⌝ }
 {
     [0u8; 16384]
 }
 
 // A get for so many bytes. Its reply buffer is all zero before.
 fn run_get(t: Target, memory: &[u8], q: Request, asked: usize, k: usize, out: &mut [u8]) -> Stepped
-    requires { ⌜ (asked ≤ MEMORY) × (TEXT ≤ length (now out)) ⌝ }
-    ensures { λ r. ⌜ GetRan (getDone (seen t) (now (memory .entry)) q (replicate asked 0)) k (now (out .entry)) r (now (out .exit)) ⌝ }
+    requires { ⌜ (asked ≤ SCRIPT-MEMORY) × (TEXT ≤ length (now out)) ⌝ }
+    ensures { λ r. ⌜ Ran (called (Calls.get q (replicate asked 0)) (seen t) (now (memory .entry))) k (now (out .entry)) r (now (out .exit)) ⌝ }
 {
     let mut reply = zero_bytes();
     run_get_into(t, memory, q, &mut reply[..asked], k, out)
@@ -124,7 +123,7 @@ fn run_get(t: Target, memory: &[u8], q: Request, asked: usize, k: usize, out: &m
 
 fn run_read_event(t: Target, k: usize, out: &mut [u8]) -> Stepped
     requires { ⌜ TEXT ≤ length (now out) ⌝ }
-    ensures { λ r. ⌜ Ran (eventRead (seen t)) k (now (out .entry)) r (now (out .exit)) ⌝ }
+    ensures { λ r. ⌜ RanOn Calls.readEvent (seen t) k (now (out .entry)) r (now (out .exit)) ⌝ }
 {
     let d = events::read_event(t);
     let answer = d.answer;
@@ -135,7 +134,7 @@ fn run_read_event(t: Target, k: usize, out: &mut [u8]) -> Stepped
 
 fn run_set_counter(t: Target, x: CounterChange, k: usize, out: &mut [u8]) -> Stepped
     requires { ⌜ TEXT ≤ length (now out) ⌝ }
-    ensures { λ r. ⌜ Ran (counterSet (seen t) x) k (now (out .entry)) r (now (out .exit)) ⌝ }
+    ensures { λ r. ⌜ RanOn (Calls.setCounter x) (seen t) k (now (out .entry)) r (now (out .exit)) ⌝ }
 {
     let d = counters::set_counter(t, x);
     let answer = d.answer;
@@ -146,7 +145,7 @@ fn run_set_counter(t: Target, x: CounterChange, k: usize, out: &mut [u8]) -> Ste
 
 fn run_increment(t: Target, x: CounterChange, k: usize, out: &mut [u8]) -> Stepped
     requires { ⌜ TEXT ≤ length (now out) ⌝ }
-    ensures { λ r. ⌜ Ran (counterIncremented (seen t) x) k (now (out .entry)) r (now (out .exit)) ⌝ }
+    ensures { λ r. ⌜ RanOn (Calls.increment x) (seen t) k (now (out .entry)) r (now (out .exit)) ⌝ }
 {
     let d = counters::increment(t, x);
     let answer = d.answer;
@@ -157,7 +156,7 @@ fn run_increment(t: Target, x: CounterChange, k: usize, out: &mut [u8]) -> Stepp
 
 fn run_read_counter(t: Target, n: u64, k: usize, out: &mut [u8]) -> Stepped
     requires { ⌜ TEXT ≤ length (now out) ⌝ }
-    ensures { λ r. ⌜ Ran (counterRead (seen t) n) k (now (out .entry)) r (now (out .exit)) ⌝ }
+    ensures { λ r. ⌜ RanOn (Calls.readCounter n) (seen t) k (now (out .entry)) r (now (out .exit)) ⌝ }
 {
     let answer = counters::read_counter(t, n);
     let length = said::counter_said(out, k, answer);
@@ -166,7 +165,7 @@ fn run_read_counter(t: Target, n: u64, k: usize, out: &mut [u8]) -> Stepped
 
 fn run_read_register(t: Target, n: u64, k: usize, out: &mut [u8]) -> Stepped
     requires { ⌜ TEXT ≤ length (now out) ⌝ }
-    ensures { λ r. ⌜ Ran (registerRead (seen t) n) k (now (out .entry)) r (now (out .exit)) ⌝ }
+    ensures { λ r. ⌜ RanOn (Calls.readRegister n) (seen t) k (now (out .entry)) r (now (out .exit)) ⌝ }
 {
     let answer = registers::read_register(t, n);
     let length = said::register_said(out, k, answer);
@@ -183,7 +182,7 @@ fn run_call(
     out: &mut [u8],
 ) -> Stepped
     requires { ⌜ (wellFormed (now script) l ≡ true) × (TEXT ≤ length (now out)) ⌝ }
-    ensures { λ r. ⌜ CallRan (called (now (script .entry)) (callOf (callKind (l .kind)) (now (script .entry)) l) (seen t) (now (memory .entry))) k (now (out .entry)) r (now (memory .exit)) (now (out .exit)) ⌝ }
+    ensures { λ r. ⌜ CallRan (called (callBy (now (script .entry)) l) (seen t) (now (memory .entry))) k (now (out .entry)) r (now (memory .exit)) (now (out .exit)) ⌝ }
 {
     match calls::call_of(script, l) {
         Call::Append(e) => run_append(t, e, k, out),
@@ -202,7 +201,7 @@ fn run_call(
 // Runs call k of a script, and ends its line.
 pub fn run_line(t: Target, memory: &mut [u8], script: &[u8], k: usize, out: &mut [u8]) -> Stepped
     requires { ⌜ (wellFormed (now script) (lineAt (now script) k) ≡ true) × (LINE ≤ length (now out)) ⌝ }
-    ensures { λ r. ⌜ LineRan (called (now (script .entry)) (callAt (now (script .entry)) k) (seen t) (now (memory .entry))) k r (now (memory .exit)) (now (out .exit)) ⌝ }
+    ensures { λ r. ⌜ LineRan (called (callAt (now (script .entry)) k) (seen t) (now (memory .entry))) k r (now (memory .exit)) (now (out .exit)) ⌝ }
 {
     let l = contents::line_at(script, k);
     let s = run_call(t, memory, script, l, k, out);

@@ -5,14 +5,14 @@ use native.Mathlib.Omega.{arith}
 use borrow.Author.Needs.{needs}
 use borrow.Author.Tests.{not-true, not-false}
 use lib.ListN.{length}
-use Rattle.reader.specs.Judging.{bodiesStart, firstBad}
+use Rattle.reader.specs.Judging.{bodiesStart, firstBadCall}
 use Rattle.reader.proofs.JudgingLaws.{lines-begin, line-ends, line-good, line-bad, lines-end}
 use Rattle.reader.proofs.judging.first_bad.Statement.{statement}
 use Rattle.reader.proofs.judging.first_bad.Tie as tie
 
 abbrev Inv-loop : tie.InvT-loop
 Inv-loop s count at₀ i₀ at i =
-    (i ≤ count) × ((at ≤ length s) × (firstBad s count 0 (bodiesStart count) ≡ firstBad s (count - i) i at))
+    (i ≤ count) × ((at ≤ length s) × (firstBadCall s count 0 (bodiesStart count) ≡ firstBadCall s (count - i) i at))
 
 abbrev μ-loop : tie.MeasureT-loop
 μ-loop s count at₀ i₀ at i = count - i

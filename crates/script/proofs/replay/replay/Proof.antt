@@ -1,4 +1,4 @@
-use mathlib.Core.Path.{sym, _∙_}
+use mathlib.Core.Path.{refl, sym, _∙_}
 use Rattle.script.specs.Promises.{LINE}
 use Rattle.script.proofs.ZeroLaws.{zeros-length}
 use native.Mathlib.Omega.{arith}
@@ -23,7 +23,7 @@ run-good-requires c κs =
     let arm = c .before in
     let judged = arm .before .before in
     let room = judged .before .line-buffer in
-    (sym (judged .judge .ensures) ∙ arm .enum-told .given .1, omega (arith, zeros-length (room .result) LINE (room .ensures)))
+    (sym (judged .judge .ensures) ∙ arm .enum-told .given .1, (refl, omega (arith, zeros-length (room .result) LINE (room .ensures))))
 
 enum-told-2 : tie.Need-enum-told-2
 enum-told-2 c = search needs
@@ -36,7 +36,7 @@ report-head-requires c κs =
     let arm = c .before in
     let judged = arm .before .before in
     let room = judged .before .line-buffer in
-    (sym (judged .judge .ensures) ∙ arm .enum-told2 .given .1, omega (arith, zeros-length (room .result) LINE (room .ensures)))
+    (sym (judged .judge .ensures) ∙ arm .enum-told2 .given .1, (refl, omega (arith, zeros-length (room .result) LINE (room .ensures))))
 
 enum-known-call : tie.Need-enum-known-call
 enum-known-call c = search needs
@@ -49,7 +49,7 @@ report-call-requires c κs =
     let arm = c .before .before in
     let judged = arm .before .before in
     let room = judged .before .line-buffer in
-    (sym (judged .judge .ensures) ∙ arm .call .given .1, omega (arith, zeros-length (room .result) LINE (room .ensures)))
+    (sym (judged .judge .ensures) ∙ arm .call .given .1, (refl, omega (arith, zeros-length (room .result) LINE (room .ensures))))
 
 returns : tie.Need-returns
 returns c = search needs

@@ -1,9 +1,6 @@
-use Prim.Native.Nat.{ℕ}
-use mathlib.Core.Path.{sym, ap, _∙_}
-use mathlib.Core.List.{List, []}
-use lib.ListN.{length, getD, length-take}
+use lib.ListN.{length-take}
 use Rattle.text.proofs.WritingLaws.{and-then}
-use Rattle.script.proofs.ReplayLaws.{call-line}
+use Rattle.script.proofs.ReplayLaws.{call-printout, whole-next, whole-done}
 use native.Mathlib.Omega.{arith}
 use borrow.Author.Needs.{needs}
 use Rattle.script.proofs.replay.report_call.Statement.{statement}
@@ -24,28 +21,32 @@ put-fields-requires c κs = search needs
 put-byte-requires : tie.Need-put-byte-requires
 put-byte-requires c κs = search needs
 
-slice-reshare-prefix-write-line : tie.Need-slice-reshare-prefix-write-line
-slice-reshare-prefix-write-line c = search needs
+slice-reshare-prefix-write-next : tie.Need-slice-reshare-prefix-write-next
+slice-reshare-prefix-write-next c = search needs
 
-slice-aggregate-write-line : tie.Need-slice-aggregate-write-line
-slice-aggregate-write-line c = simp length-take (omega arith)
+slice-aggregate-write-next : tie.Need-slice-aggregate-write-next
+slice-aggregate-write-next c = simp length-take (omega arith)
 
-write-line-requires : tie.Need-write-line-requires
-write-line-requires c κs =
+write-next-requires : tie.Need-write-next-requires
+write-next-requires c κs =
     let ended = c .before .before .before in
     let numbered = ended .before .before .before .before in
-    let begun = numbered .before .before .before .before .before in
-    let i = begun .before .before .before .before .before in
-    let line = and-then (and-then (begun .put-bytes .ensures) (numbered .put-fields .ensures)) (ended .put-byte .ensures) in
-    line .front ∙ sym (ap (λ (l : List (List ℕ)). getD l 0 []) (call-line (i .args .script .now) (i .args .call) (i .pre .0)))
+    let put = numbered .before .before .before .before .before in
+    let i = put .before .before .before .before .before in
+    let wrote = and-then (and-then (put .put-bytes .ensures) (numbered .put-fields .ensures)) (ended .put-byte .ensures) in
+    whole-next (i .args .script .now) (i .args .begun) _ _ _ _ _ (i .pre .1 .0) (call-printout (i .args .script .now) (i .args .call) (i .pre .0)) (omega arith) wrote
 
 same-length : tie.Need-same-length
 same-length c = search needs
 
 returns : tie.Need-returns
 returns c =
-    let i = c .before .before .before .before .before .before .before .before .before .before .before .before .before .before .before .before .before .before in
-    sym (ap (λ (l : List (List ℕ)). length l) (call-line (i .args .script .now) (i .args .call) (i .pre .0)))
+    let ended = c .before .before .before .before in
+    let numbered = ended .before .before .before .before in
+    let put = numbered .before .before .before .before .before in
+    let i = put .before .before .before .before .before in
+    let wrote = and-then (and-then (put .put-bytes .ensures) (numbered .put-fields .ensures)) (ended .put-byte .ensures) in
+    whole-done (i .args .script .now) (i .args .begun) _ _ _ _ _ (i .pre .1 .0) (call-printout (i .args .script .now) (i .args .call) (i .pre .0)) (omega arith) wrote (c .write-next .result) (c .write-next .ensures)
 
 pub report-call-spec : {M : Type 1} → statement M
 report-call-spec =
@@ -56,8 +57,8 @@ report-call-spec =
     slice-aggregate-put-fields
     put-fields-requires
     put-byte-requires
-    slice-reshare-prefix-write-line
-    slice-aggregate-write-line
-    write-line-requires
+    slice-reshare-prefix-write-next
+    slice-aggregate-write-next
+    write-next-requires
     same-length
     returns)

@@ -1,6 +1,6 @@
 use mathlib.Core.Path.{sym, ap, _∙_}
 use lib.ListN.{replicate}
-use Rattle.reader.specs.Judging.{MEMORY}
+use Rattle.reader.specs.Judging.{SCRIPT-MEMORY}
 use Rattle.reader.specs.declared.contents.Head.{Head}
 use Rattle.reader.proofs.JudgingLaws.{good-head}
 use Rattle.script.proofs.ZeroLaws.{zero-part, zero-length, zeros-length}
@@ -25,14 +25,15 @@ array-borrow-prefix-memory c =
     let i = head .before .before .before in
     let z = c .zero-bytes in
     let size = memory-small (i .args .script .now) (head .head-of .result) (head .head-of .ensures) (i .pre .0) in
-    omega (arith, size, zeros-length (z .result) MEMORY (z .ensures))
+    omega (arith, size, zeros-length (z .result) SCRIPT-MEMORY (z .ensures))
 
 slice-aggregate-run-lines : tie.Need-slice-aggregate-run-lines
 slice-aggregate-run-lines c =
     let head = c .before .before .before in
     let i = head .before .before .before in
     let z = c .before .zero-bytes in
-    sym (zero-length (z .result) MEMORY (head .head-of .result .memory) (z .ensures) (memory-small (i .args .script .now) (head .head-of .result) (head .head-of .ensures) (i .pre .0)))
+    let size = memory-small (i .args .script .now) (head .head-of .result) (head .head-of .ensures) (i .pre .0) in
+    sym (zero-length (z .result) SCRIPT-MEMORY (head .head-of .result .memory) (z .ensures) size)
 
 run-lines-requires : tie.Need-run-lines-requires
 run-lines-requires c κs =
@@ -40,8 +41,8 @@ run-lines-requires c κs =
     let i = head .before .before .before in
     let z = c .before .before .zero-bytes in
     let size = memory-small (i .args .script .now) (head .head-of .result) (head .head-of .ensures) (i .pre .0) in
-    let zeros = zero-part (z .result) MEMORY (head .head-of .result .memory) (z .ensures) size in
-    (i .pre .0, (zeros ∙ ap (λ (h : Head). replicate (h .memory) 0) (head .head-of .ensures), i .pre .1))
+    let zeros = zero-part (z .result) SCRIPT-MEMORY (head .head-of .result .memory) (z .ensures) size in
+    (i .pre .0, (i .pre .1 .0, (zeros ∙ ap (λ (h : Head). replicate (h .memory) 0) (head .head-of .ensures), i .pre .1 .1)))
 
 same-length : tie.Need-same-length
 same-length c = search needs

@@ -1,19 +1,20 @@
 use borrow.Author.Needs.{needs}
 use Prim.Native.Nat.{_-_}
-use mathlib.Core.Path.{_≡_, refl, _∙_}
-use lib.ListN.{length, length-take}
+use mathlib.Core.Path.{_≡_, refl, sym, _∙_}
+use lib.ListN.{length, take}
+use lib.Seq.{length-take-le}
 use Rattle.reader.proofs.JudgingLaws.{good-head, good-calls}
-use Rattle.script.proofs.ReplayLaws.{Going, going-begins, going-line, going-on, going-ends}
+use Rattle.script.proofs.ReplayLaws.{Going, going-begins, going-next, going-on, going-ends}
 use native.Mathlib.Omega.{arith}
 use Rattle.script.proofs.replay.run_lines.Statement.{statement}
 use Rattle.script.proofs.replay.run_lines.Tie as tie
 
 abbrev Inv-loop : tie.InvT-loop
-Inv-loop script memory₀ out₀ count t₀ written₀ k₀ memory out t written k =
-    (length memory ≡ length memory₀) × ((length out ≡ length out₀) × Going script count k t memory)
+Inv-loop script memory₀ out₀ count t₀ done₀ k₀ memory out t done k =
+    (length memory ≡ length memory₀) × ((length out ≡ length out₀) × Going script count k done t memory)
 
 abbrev μ-loop : tie.MeasureT-loop
-μ-loop script memory₀ out₀ count t₀ written₀ k₀ memory out t written k = count - k
+μ-loop script memory₀ out₀ count t₀ done₀ k₀ memory out t done k = count - k
 
 head-of-requires : tie.Need-head-of-requires Inv-loop μ-loop
 head-of-requires c κs = good-head (c .before .before .before .args .script .now) (c .before .before .before .pre .0) .0
@@ -28,34 +29,47 @@ loop-holds : tie.Need-loop-holds Inv-loop μ-loop
 loop-holds c =
     let made = c .before .before in
     let i = made .before .before .before .before .before in
-    (refl, (refl, going-begins (i .args .script .now) (made .before .head-of .result) (made .new .result .target) (i .args .memory .now) (made .before .head-of .ensures) (i .pre .0) (made .new .ensures .state) (i .pre .1 .0)))
+    let a = i .args in
+    (refl, (refl, going-begins (a .script .now) (made .before .head-of .result) (a .begun) (made .new .result .target) (a .memory .now) (made .before .head-of .ensures) (i .pre .0) (i .pre .1 .0) (made .new .ensures .state) (i .pre .1 .1 .0)))
 
 run-line-requires : tie.Need-run-line-requires Inv-loop μ-loop
 run-line-requires c κs =
     let l = c .before .before .before .loop in
     let i = c .before .before .before .before .before .before .before .before .before .before .before in
-    (good-calls (i .args .script .now) (l .k) (i .pre .0) (omega (arith, c .before .before .loop-test .taken, l .inv .1 .1 .counted)), omega (arith, i .pre .1 .1, l .inv .1 .0))
+    (good-calls (i .args .script .now) (l .k) (i .pre .0) (omega (arith, c .before .before .loop-test .taken, l .inv .1 .1 .counted)), omega (arith, i .pre .1 .1 .1, l .inv .1 .0))
 
-slice-reshare-prefix-write-line : tie.Need-slice-reshare-prefix-write-line Inv-loop μ-loop
-slice-reshare-prefix-write-line c = c .before .before .before .before .before .run-line .ensures .inside
+slice-reshare-prefix-write-next : tie.Need-slice-reshare-prefix-write-next Inv-loop μ-loop
+slice-reshare-prefix-write-next c =
+    let ran = c .before .before .before .before .before in
+    let l = ran .before .before .before .before .loop in
+    let i = ran .before .before .before .before .before .before .before .before .before .before .before .before in
+    let step = ran .run-line in
+    omega (arith, step .ensures .short, step .kept .1 .1 .1 .1 .0, l .inv .1 .0, i .pre .1 .1 .1)
 
-slice-aggregate-write-line : tie.Need-slice-aggregate-write-line Inv-loop μ-loop
-slice-aggregate-write-line c = simp length-take (omega (arith, c .before .before .before .before .before .before .run-line .ensures .inside))
-
-write-line-requires : tie.Need-write-line-requires Inv-loop μ-loop
-write-line-requires c κs =
+slice-aggregate-write-next : tie.Need-slice-aggregate-write-next Inv-loop μ-loop
+slice-aggregate-write-next c =
     let ran = c .before .before .before .before .before .before in
     let l = ran .before .before .before .before .loop in
     let i = ran .before .before .before .before .before .before .before .before .before .before .before .before in
-    going-line (i .args .script .now) _ (l .k) (l .t) (l .memory) (l .inv .1 .1) _ (ran .before .before .before .loop-test .taken) (ran .run-line .ensures .line)
+    let step = ran .run-line in
+    let fits : length (take (step .result .length) (step .last .1 .1 .1 .1 .0)) ≡ step .result .length = length-take-le (step .result .length) (step .last .1 .1 .1 .1 .0) (omega (arith, step .ensures .short, step .kept .1 .1 .1 .1 .0, l .inv .1 .0, i .pre .1 .1 .1)) in
+    sym fits
+
+write-next-requires : tie.Need-write-next-requires Inv-loop μ-loop
+write-next-requires c κs =
+    let ran = c .before .before .before .before .before .before in
+    let l = ran .before .before .before .before .loop in
+    let i = ran .before .before .before .before .before .before .before .before .before .before .before .before in
+    let step = ran .run-line in
+    let fits : length (take (step .result .length) (step .last .1 .1 .1 .1 .0)) ≡ step .result .length = length-take-le (step .result .length) (step .last .1 .1 .1 .1 .0) (omega (arith, step .ensures .short, step .kept .1 .1 .1 .1 .0, l .inv .1 .0, i .pre .1 .1 .1)) in
+    going-next (i .args .script .now) _ (l .k) (l .done) (l .t) (l .memory) (l .inv .1 .1) (step .result) _ _ (ran .before .before .before .loop-test .taken) (step .ensures) fits
 
 add-k : tie.Need-add-k Inv-loop μ-loop
 add-k c = search needs
 
 loop-less : tie.Need-loop-less Inv-loop μ-loop
 loop-less c =
-    let l = c .before .before .before .before .before .before .before .before .before .before in
-    let more = l .loop-test .taken in
+    let more = c .before .before .before .before .before .before .before .before .before .before .loop-test .taken in
     omega (arith, more)
 
 loop-again : tie.Need-loop-again Inv-loop μ-loop
@@ -64,7 +78,8 @@ loop-again c =
     let l = ran .before .before .before .before .loop in
     let i = ran .before .before .before .before .before .before .before .before .before .before .before .before in
     let step = ran .run-line in
-    (step .kept .1 .0 ∙ l .inv .0, (step .kept .1 .1 .1 .1 .0 ∙ l .inv .1 .0, going-on (i .args .script .now) _ (l .k) (l .t) (l .memory) (l .inv .1 .1) (step .result) _ _ (ran .before .before .before .loop-test .taken) (step .ensures)))
+    let fits : length (take (step .result .length) (step .last .1 .1 .1 .1 .0)) ≡ step .result .length = length-take-le (step .result .length) (step .last .1 .1 .1 .1 .0) (omega (arith, step .ensures .short, step .kept .1 .1 .1 .1 .0, l .inv .1 .0, i .pre .1 .1 .1)) in
+    (step .kept .1 .0 ∙ l .inv .0, (step .kept .1 .1 .1 .1 .0 ∙ l .inv .1 .0, going-on (i .args .script .now) _ (l .k) (l .done) (l .t) (l .memory) (l .inv .1 .1) (step .result) _ _ (ran .before .before .before .loop-test .taken) (step .ensures) (c .write-next .result) fits (c .write-next .ensures)))
 
 same-length : tie.Need-same-length Inv-loop μ-loop
 same-length c = c .before .loop .inv .0
@@ -76,7 +91,7 @@ returns : tie.Need-returns Inv-loop μ-loop
 returns c =
     let l = c .before .loop in
     let i = c .before .before .before .before .before .before .before .before .before in
-    going-ends (i .args .script .now) _ (l .k) (l .t) (l .memory) (l .inv .1 .1) (c .loop-test .left)
+    going-ends (i .args .script .now) _ (l .k) (l .done) (l .t) (l .memory) (l .inv .1 .1) (c .loop-test .left)
 
 pub run-lines-spec : {M : Type 1} → statement M
 run-lines-spec =
@@ -89,9 +104,9 @@ run-lines-spec =
     cast-count
     loop-holds
     run-line-requires
-    slice-reshare-prefix-write-line
-    slice-aggregate-write-line
-    write-line-requires
+    slice-reshare-prefix-write-next
+    slice-aggregate-write-next
+    write-next-requires
     add-k
     loop-less
     loop-again

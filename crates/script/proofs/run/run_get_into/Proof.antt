@@ -1,3 +1,4 @@
+use Rattle.state.specs.Soundness.{seen}
 use native.Mathlib.Omega.{arith}
 use mathlib.Core.Path.{refl}
 use lib.ListN.{length}
@@ -27,8 +28,9 @@ returns c =
     let printed = shown .before .before .before .before .before in
     let called = printed .before .before .before .before in
     let i = called .before .before .before .before .before in
+    let a = i .args in
     let reply = called .get .last .1 .1 .1 .0 in
-    get-ran _ _ (i .args .k) _ _ (length reply) _ _ _ (called .get .ensures .outcome) refl (omega (arith, i .pre .0, called .get .kept .1 .1 .1 .0)) (printed .request-said .ensures) (shown .put-reply .ensures)
+    get-ran (a .memory .now) (a .q) (a .k) _ _ _ (a .reply .now) (seen (a .t)) _ _ (length reply) _ (called .get .ensures .outcome) refl (omega (arith, i .pre .0, called .get .kept .1 .1 .1 .0)) (printed .request-said .ensures) (shown .put-reply .ensures)
 
 pub run-get-into-spec : {M : Type 1} → statement M
 run-get-into-spec =

@@ -1,3 +1,6 @@
+use Rattle.state.specs.Soundness.{seen}
+use Rattle.portals.specs.Calls as Calls
+use Rattle.portals.specs.CounterCalls as counters
 use mathlib.Core.Path.{refl}
 use Rattle.script.proofs.RunLaws.{ran}
 use borrow.Author.Needs.{needs}
@@ -17,7 +20,8 @@ returns : tie.Need-returns
 returns c =
     let printed = c .before .before .before in
     let called = printed .before .before in
-    ran _ _ (called .before .before .args .k) _ _ _ (called .increment .ensures .outcome) refl (printed .plain-said .ensures)
+    let a = called .before .before .args in
+    ran (Calls.increment (a .x)) (a .k) _ _ _ (λ v. counters.increment v (a .x)) (seen (a .t)) _ (λ v memory. refl) (called .increment .ensures .outcome) refl (printed .plain-said .ensures)
 
 pub run-increment-spec : {M : Type 1} → statement M
 run-increment-spec =

@@ -1,3 +1,4 @@
+use Rattle.state.specs.Soundness.{seen}
 use mathlib.Core.Path.{refl}
 use Rattle.script.proofs.RunLaws.{put-ran}
 use borrow.Author.Needs.{needs}
@@ -21,7 +22,7 @@ returns c =
     let printed = c .before .before .before in
     let called = printed .before .before .before .before in
     let a = called .before .before .before .before .before .args in
-    put-ran _ _ (a .k) _ _ _ _ (called .put .ensures .outcome) refl refl (printed .request-said .ensures)
+    put-ran (a .memory .now) (a .q) (a .k) _ _ _ (a .payload .now) (seen (a .t)) _ _ (called .put .ensures .outcome) refl refl (printed .request-said .ensures)
 
 pub run-put-spec : {M : Type 1} → statement M
 run-put-spec =

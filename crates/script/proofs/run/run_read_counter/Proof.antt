@@ -1,3 +1,6 @@
+use mathlib.Core.Path.{refl}
+use Rattle.portals.specs.Calls as Calls
+use Rattle.portals.specs.CounterCalls as counters
 use Rattle.script.proofs.RunLaws.{read-ran}
 use borrow.Author.Needs.{needs}
 use Rattle.script.proofs.run.run_read_counter.Statement.{statement}
@@ -17,7 +20,7 @@ returns c =
     let printed = c .before .before in
     let called = printed .before .before in
     let a = called .before .before .args in
-    read-ran _ _ (a .t) (a .k) _ _ _ (called .read-counter .ensures .outcome) (printed .counter-said .ensures)
+    read-ran (Calls.readCounter (a .n)) (a .k) _ _ _ (λ v. counters.readCounter v (a .n)) (a .t) _ (λ v memory. refl) (called .read-counter .ensures .outcome) refl (printed .counter-said .ensures)
 
 pub run-read-counter-spec : {M : Type 1} → statement M
 run-read-counter-spec =

@@ -1,3 +1,6 @@
+use Rattle.state.specs.Soundness.{seen}
+use Rattle.portals.specs.Calls as Calls
+use Rattle.portals.specs.EventRead as events
 use mathlib.Core.Path.{refl}
 use Rattle.script.proofs.RunLaws.{ran}
 use borrow.Author.Needs.{needs}
@@ -17,7 +20,8 @@ returns : tie.Need-returns
 returns c =
     let printed = c .before .before .before in
     let called = printed .before .before in
-    ran _ _ (called .before .before .args .k) _ _ _ (called .read-event .ensures .outcome) refl (printed .event-said .ensures)
+    let a = called .before .before .args in
+    ran Calls.readEvent (a .k) _ _ _ (λ v. events.readEvent v) (seen (a .t)) _ (λ v memory. refl) (called .read-event .ensures .outcome) refl (printed .event-said .ensures)
 
 pub run-read-event-spec : {M : Type 1} → statement M
 run-read-event-spec =

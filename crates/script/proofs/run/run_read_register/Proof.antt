@@ -1,3 +1,6 @@
+use mathlib.Core.Path.{refl}
+use Rattle.portals.specs.Calls as Calls
+use Rattle.portals.specs.CounterCalls as counters
 use Rattle.script.proofs.RunLaws.{read-ran}
 use borrow.Author.Needs.{needs}
 use Rattle.script.proofs.run.run_read_register.Statement.{statement}
@@ -17,7 +20,7 @@ returns c =
     let printed = c .before .before in
     let called = printed .before .before in
     let a = called .before .before .args in
-    read-ran _ _ (a .t) (a .k) _ _ _ (called .read-register .ensures .outcome) (printed .register-said .ensures)
+    read-ran (Calls.readRegister (a .n)) (a .k) _ _ _ (λ v. counters.readRegister v (a .n)) (a .t) _ (λ v memory. refl) (called .read-register .ensures .outcome) refl (printed .register-said .ensures)
 
 pub run-read-register-spec : {M : Type 1} → statement M
 run-read-register-spec =

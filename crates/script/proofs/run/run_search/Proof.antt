@@ -1,3 +1,6 @@
+use Rattle.state.specs.Soundness.{seen}
+use Rattle.portals.specs.Calls as Calls
+use Rattle.portals.specs.EarlyMessages as early
 use mathlib.Core.Path.{refl}
 use Rattle.script.proofs.RunLaws.{ran}
 use borrow.Author.Needs.{needs}
@@ -17,7 +20,8 @@ returns : tie.Need-returns
 returns c =
     let printed = c .before .before .before in
     let called = printed .before .before in
-    ran _ _ (called .before .before .args .k) _ _ _ (called .search .ensures .outcome) refl (printed .search-said .ensures)
+    let a = called .before .before .args in
+    ran (Calls.search (a .e)) (a .k) _ _ _ (λ v. early.search v (a .e)) (seen (a .t)) _ (λ v memory. refl) (called .search .ensures .outcome) refl (printed .search-said .ensures)
 
 pub run-search-spec : {M : Type 1} → statement M
 run-search-spec = tie.close (tie.spec search-requires search-said-requires same-length returns)

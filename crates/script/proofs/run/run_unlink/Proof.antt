@@ -1,3 +1,6 @@
+use Rattle.state.specs.Soundness.{seen}
+use Rattle.portals.specs.Calls as Calls
+use Rattle.portals.specs.EarlyMessages as early
 use mathlib.Core.Path.{refl}
 use Rattle.script.proofs.RunLaws.{ran}
 use borrow.Author.Needs.{needs}
@@ -17,7 +20,8 @@ returns : tie.Need-returns
 returns c =
     let printed = c .before .before .before in
     let called = printed .before .before in
-    ran _ _ (called .before .before .args .k) _ _ _ (called .unlink .ensures .outcome) refl (printed .plain-said .ensures)
+    let a = called .before .before .args in
+    ran (Calls.unlink (a .handle)) (a .k) _ _ _ (λ v. early.unlink v (a .handle)) (seen (a .t)) _ (λ v memory. refl) (called .unlink .ensures .outcome) refl (printed .plain-said .ensures)
 
 pub run-unlink-spec : {M : Type 1} → statement M
 run-unlink-spec = tie.close (tie.spec unlink-requires plain-said-requires same-length returns)
