@@ -18,7 +18,7 @@ use Rattle.text.specs.Text.{bytesOf, decimalOf, fieldsOf, hexOf}
 abbrev pub wordAnd : String → List ℕ → List ℕ
 wordAnd word numbers = bytesOf word ++ fieldsOf numbers
 
--- "REFUSED name"
+-- "REFUSED name", by the refusal's number; there are only 1 to 5
 abbrev pub refusalText : ℕ → List ℕ
 refusalText n =
     cond (eqb n 1) (wordAnd " REFUSED BAD_STATE" [])
@@ -27,6 +27,7 @@ refusalText n =
     (cond (eqb n 4) (wordAnd " REFUSED NO_SPACE" [])
     (wordAnd " REFUSED IN_USE" []))))
 
+-- the names of document 01, "Events"
 abbrev pub kindText : EventKind → List ℕ
 kindText EventKind.Link = bytesOf " LINK"
 kindText EventKind.Put = bytesOf " PUT"
@@ -86,7 +87,7 @@ answerText NONE-REACHED = []
 unfoldable pub said : ℕ → Answer → List ℕ
 said k answer = decimalOf k ++ answerText answer
 
--- so many bytes at most
+-- which has so many bytes at most: the longest is an event's, 20 + 6 + 13 + 9 + 13 * 21 = 321
 abbrev pub SAID : ℕ
 SAID = 350
 

@@ -181,7 +181,7 @@ fn put_event_message(out: &mut [u8], at: usize, e: Event) -> usize
 }
 
 // An event with its fields and gap.
-fn event_told(out: &mut [u8], k: usize, e: Event) -> usize
+fn put_event(out: &mut [u8], k: usize, e: Event) -> usize
     requires { ⌜ SAID ≤ length (now out) ⌝ }
     ensures { λ r. ⌜ Wrote (now (out .entry)) 0 (said k (EVENT e)) SAID (now (out .exit)) r ⌝ }
 {
@@ -197,7 +197,7 @@ pub fn event_said(out: &mut [u8], k: usize, a: EventAnswer) -> usize
     ensures { λ r. ⌜ Wrote (now (out .entry)) 0 (said k (eventAnswer a)) SAID (now (out .exit)) r ⌝ }
 {
     match a {
-        EventAnswer::Oldest(e) => event_told(out, k, e),
+        EventAnswer::Oldest(e) => put_event(out, k, e),
         EventAnswer::Nothing => put_said(out, k, b" NONE", &[]),
         EventAnswer::Refused(refusal) => refusal_said(out, k, refusal),
     }
@@ -215,7 +215,7 @@ fn put_shown(out: &mut [u8], at: usize, bytes: &[u8]) -> usize
     hex::put_hex(out, a, bytes)
 }
 
-// The first bytes of a reply, as many as are asked for or as it has.
+// The first n bytes of a reply, or all of one that has fewer.
 fn put_first(out: &mut [u8], at: usize, reply: &[u8], n: u32) -> usize
     requires { ⌜ at + (2 + 2 * length (now reply)) ≤ length (now out) ⌝ }
     ensures { λ r. ⌜ Wrote (now (out .entry)) at (shownText (take n (now (reply .entry)))) (2 + 2 * length (now (reply .entry))) (now (out .exit)) r ⌝ }
@@ -227,7 +227,7 @@ fn put_first(out: &mut [u8], at: usize, reply: &[u8], n: u32) -> usize
     put_shown(out, at, &reply[..n])
 }
 
-// What a get adds to its line: the bytes accepted, where there was an entry for it.
+// What a get adds to its line: the bytes accepted, where it was delivered.
 pub fn put_reply(out: &mut [u8], at: usize, a: RequestAnswer, reply: &[u8]) -> usize
     requires { ⌜ at + (2 + 2 * length (now reply)) ≤ length (now out) ⌝ }
     ensures { λ r. ⌜ Wrote (now (out .entry)) at (shownOf (requestAnswer a) (now (reply .entry))) (2 + 2 * length (now (reply .entry))) (now (out .exit)) r ⌝ }

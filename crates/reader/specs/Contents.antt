@@ -29,10 +29,11 @@ abbrev pub lineRead : List ℕ → ℕ → Line
 lineRead s at =
     record { kind = byteAt s at; reserved = byteAt s (at + 1); length = numberAt s (at + 2) 2; place = numberAt s (at + 4) 4 }
 
--- what stands where a file has no such line
+-- where there is no such line
 abbrev pub noLine : Line
 noLine = record { kind = 0; reserved = 0; length = 0; place = 0 }
 
+-- line i: none beyond the calls that a file can have, and beyond the file's end
 unfoldable pub lineAt : List ℕ → ℕ → Line
 lineAt s i = cond (leb (suc i) CALLS && leb (lineStart (suc i)) (length s)) (lineRead s (lineStart i)) noLine
 

@@ -56,7 +56,7 @@ requestZeros s at = eqb (numberAt s (at + 2) 2) 0 && eqb (numberAt s (at + 36) 4
 abbrev pub goodEntry : List ℕ → Line → Bool
 goodEntry s l = eqb (l .length) 56 && eqb (byteAt s (l .place + 3)) 0
 
--- a put's: as much longer than 48 bytes as its length field says
+-- a put's: as much longer than 48 bytes as its length field says. That it has 48 follows; it is tested first, before they are read.
 abbrev pub goodPut : List ℕ → Line → Bool
 goodPut s l = leb 48 (l .length) && (requestZeros s (l .place) && eqb (l .length) (48 + lengthAt s (l .place)))
 

@@ -6,7 +6,6 @@ use crate::contents::Head;
 use crate::contents::Line;
 use crate::numbers;
 ghost use mathlib.Core.Path.{_≡_};
-ghost use mathlib.Core.Bool.{true};
 ghost use Prim.Native.Nat.{_+_, _≤_};
 ghost use lib.ListN.{length};
 ghost use Rattle.reader.specs.Contents.{CALLS};

@@ -6,17 +6,17 @@ use mathlib.Core.Bool.{cond}
 use mathlib.Core.List.{List, [], _∷_, _++_}
 use lib.Dec.{ltb}
 
--- a word in quotes, byte by byte
+-- a text in quotes, byte by byte; all texts here are ASCII
 abbrev pub bytesOf : String → List ℕ
 bytesOf ε = []
 bytesOf (c ◂ s) = code c ∷ bytesOf s
 
--- the last k digits of a number, in decimal, with no zeros in front
+-- a number in decimal, with no zeros in front; it has to be below 10 ^ k
 unfoldable pub digitsOf : ℕ → ℕ → List ℕ
 digitsOf zero n = []
 digitsOf (suc k) n = cond (ltb n 10) ((48 + n) ∷ []) (digitsOf k (n / 10) ++ ((48 + n % 10) ∷ []))
 
--- a number of 64 bits, which has at most 20 digits
+-- a number of 64 bits has at most 20 digits
 unfoldable pub decimalOf : ℕ → List ℕ
 decimalOf n = digitsOf 20 n
 

@@ -9,8 +9,8 @@ use Rattle.printer.proofs.said.event_said.Tie as tie
 enum-known-a : tie.Need-enum-known-a
 enum-known-a c = search needs
 
-event-told-requires : tie.Need-event-told-requires
-event-told-requires c κs = search needs
+put-event-requires : tie.Need-put-event-requires
+put-event-requires c κs = search needs
 
 enum-told : tie.Need-enum-told
 enum-told c = search needs
@@ -36,7 +36,7 @@ same-length c = search needs
 returns : tie.Need-returns
 returns c =
     let known = c .before .before .before .before .before .a .given .1 in
-    rw known (c .before .before .event-told .ensures)
+    rw known (c .before .before .put-event .ensures)
 
 same-length-2 : tie.Need-same-length-2
 same-length-2 c = search needs
@@ -60,7 +60,7 @@ event-said-spec =
     tie.close
     (tie.spec
     enum-known-a
-    event-told-requires
+    put-event-requires
     enum-told
     slice-aggregate-put-said
     slice-aggregate-put-said-2

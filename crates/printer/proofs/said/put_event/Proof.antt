@@ -1,7 +1,7 @@
 use Rattle.printer.proofs.SaidLaws.{event-said}
 use borrow.Author.Needs.{needs}
-use Rattle.printer.proofs.said.event_told.Statement.{statement}
-use Rattle.printer.proofs.said.event_told.Tie as tie
+use Rattle.printer.proofs.said.put_event.Statement.{statement}
+use Rattle.printer.proofs.said.put_event.Tie as tie
 
 slice-aggregate-put-said : tie.Need-slice-aggregate-put-said
 slice-aggregate-put-said c = search needs
@@ -37,8 +37,8 @@ returns c =
     let a = begun .before .before .before .before .before .args in
     event-said (a .k) (a .e) (begun .put-said .ensures) (kind .put-kind .ensures) (fail .put-fail .ensures) (source .put-event-source .ensures) (message .put-event-message .ensures)
 
-pub event-told-spec : {M : Type 1} → statement M
-event-told-spec =
+pub put-event-spec : {M : Type 1} → statement M
+put-event-spec =
     tie.close
     (tie.spec
     slice-aggregate-put-said
