@@ -5,7 +5,7 @@ use mathlib.Core.List.{List, [], _∷_, _++_}
 use native.Mathlib.Omega.{arith}
 use native.Mathlib.Numerals.{add-one}
 use lib.ListN.{length, take, drop, replicate, length-drop, length-append}
-use lib.Seq.{take-length, take-at, drop-at, drop-drop}
+use lib.Seq.{length-take-le, take-length, take-at, drop-at, drop-drop}
 use Rattle.state.specs.Soundness.{sound, seen}
 use Rattle.state.specs.declared.layout.Target.{Target}
 use Rattle.portals.specs.Making.{new}
@@ -36,7 +36,8 @@ module _ (p : List ℕ) (n : ℕ) (piece rest : List ℕ) (left : drop n p ≡ p
 
   pub piece-inside : n ≤ length p → n + length piece ≤ length p
   piece-inside inside =
-      let count : length p - n ≡ length piece + length rest = sym (length-drop n p) ∙ ap (λ (l : List ℕ). length l) left ∙ length-append piece rest in
+      let count : length p - n ≡ length piece + length rest
+      = sym (length-drop n p) ∙ ap (λ (l : List ℕ). length l) left ∙ length-append piece rest in
       omega (arith, count, inside)
 
 -- where nothing is left, all was handed over
@@ -50,6 +51,16 @@ none-left p n left inside =
 -- a good script's memory is a part of 16,384 bytes
 pub memory-small : (s : List ℕ) (head : Head) → head ≡ headOf s → verdictOf s ≡ Verdict.Good → head .memory ≤ SCRIPT-MEMORY
 memory-small s head is good = subst (λ (h : Head). h .memory ≤ SCRIPT-MEMORY) (sym is) (good-head s good .1 .1)
+
+-- ## The buffer
+
+-- a line lies in the buffer, which has room for every line and keeps its length
+module _ (n : ℕ) (out₀ out out′ : List ℕ) (short : n ≤ LINE) (room : LINE ≤ length out₀) (e : length out ≡ length out₀) (e′ : length out′ ≡ length out) where
+  pub line-inside : n ≤ length out′
+  line-inside = omega arith
+
+  pub line-fits : length (take n out′) ≡ n
+  line-fits = length-take-le n out′ line-inside
 
 -- ## The loop
 
@@ -84,7 +95,8 @@ going-begins s head begun t memory is good none made zeros =
 
 module _
     (s : List ℕ) (count k : ℕ) (done : Report) (t : Target) (memory : List ℕ) (g : Going s count k done t memory)
-    (r : Stepped) (memory′ out′ : List ℕ) (more : k < count) (ran : LineRan (called (callAt s k) (seen t) memory) k r memory′ out′) where
+    (r : Stepped) (memory′ out′ : List ℕ) (more : k < count)
+    (ran : LineRan (called (callAt s k) (seen t) memory) k r memory′ out′) where
   line : List ℕ
   line = take (r .length) out′
 
@@ -105,7 +117,11 @@ module _
     room = omega (arith, e, ran .short, g .short, g .few, more);
   }
 
-  pub going-on : (done′ : Report) → length (take (r .length) out′) ≡ r .length → done′ .bytes ≡ done .bytes + length (take (r .length) out′) → Going s count (k + 1) done′ (r .target) memory′
+  pub going-on :
+      (done′ : Report)
+      → length (take (r .length) out′) ≡ r .length
+      → done′ .bytes ≡ done .bytes + length (take (r .length) out′)
+      → Going s count (k + 1) done′ (r .target) memory′
   unfolding line rest
   going-on done′ e d = record {
     counted = g .counted;
@@ -134,13 +150,16 @@ pub head-printout : (s : List ℕ) → verdictOf s ≡ Verdict.BadHead → print
 unfolding printoutOf
 head-printout s bad = ap (λ (v : Verdict). printoutBy v s) bad
 
-pub call-printout : (s : List ℕ) (n : ℕ) → verdictOf s ≡ Verdict.BadCall n → printoutOf s ≡ bytesOf "BAD_SCRIPT" ++ fieldsOf (n ∷ []) ++ bytesOf "\n"
+pub call-printout :
+    (s : List ℕ) (n : ℕ)
+    → verdictOf s ≡ Verdict.BadCall n
+    → printoutOf s ≡ bytesOf "BAD_SCRIPT" ++ fieldsOf (n ∷ []) ++ bytesOf "\n"
 unfolding printoutOf
 call-printout s n bad = ap (λ (v : Verdict). printoutBy v s) bad
 
 module _
-    (s : List ℕ) (begun : Report) (text b b′ : List ℕ) (n w : ℕ) (none : begun .bytes ≡ 0) (is : printoutOf s ≡ text) (small : w ≤ LINE)
-    (wrote : Wrote b 0 text w b′ n) where
+    (s : List ℕ) (begun : Report) (text b b′ : List ℕ) (n w : ℕ)
+    (none : begun .bytes ≡ 0) (is : printoutOf s ≡ text) (small : w ≤ LINE) (wrote : Wrote b 0 text w b′ n) where
   -- written into a buffer, it may be handed over whole
   pub whole-next : Next s begun (take n b′)
   whole-next =

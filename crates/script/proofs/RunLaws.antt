@@ -67,7 +67,9 @@ module _ (c : Call) (k : ℕ) (out : List ℕ) (r : Stepped) (out′ : List ℕ)
       → Wrote out 0 (said k (given .answer)) SAID out′ (r .length)
       → RanOn c x k out r out′
   ran call x given is e s w = record {
-    ran = λ memory. ran-as (λ (a : Outcome Seen Unit). leaving memory a) (called c x memory) given (unlessUnsound call x tt) k out r out′ (same x memory) e (record { state = s; line = said-alone k (given .answer) w });
+    ran = λ memory.
+        ran-as (λ (a : Outcome Seen Unit). leaving memory a) (called c x memory) given (unlessUnsound call x tt) k out r out′
+        (same x memory) e (record { state = s; line = said-alone k (given .answer) w });
     kept = λ memory. sym (ap (λ (z : Called). z .memory) (same x memory));
   }
     where
@@ -78,14 +80,16 @@ module _ (c : Call) (k : ℕ) (out : List ℕ) (r : Stepped) (out′ : List ℕ)
   -- a call that only reads
   pub read-ran :
       (call : View → Answer) (t : Target) (answer : Answer)
-      → ((v : View) (memory : List ℕ)
-      → leaving memory (record { answer = call v; state = sound v; buffer = tt }) ≡ called c (sound v) memory)
+      → ((v : View) (memory : List ℕ) → leaving memory (record { answer = call v; state = sound v; buffer = tt }) ≡ called c (sound v) memory)
       → answer ≡ readUnlessUnsound call (seen t)
       → r .target ≡ t
       → Wrote out 0 (said k answer) SAID out′ (r .length)
       → RanOn c (seen t) k out r out′
   read-ran call t answer is e s w = record {
-    ran = λ memory. ran-as (λ (a : Answer). leaving memory (read a (seen t))) (called c (seen t) memory) answer (readUnlessUnsound call (seen t)) k out r out′ (same (seen t) memory) e (record { state = ap seen s; line = said-alone k answer w });
+    ran = λ memory.
+        ran-as (λ (a : Answer). leaving memory (read a (seen t))) (called c (seen t) memory) answer
+        (readUnlessUnsound call (seen t)) k out r out′
+        (same (seen t) memory) e (record { state = ap seen s; line = said-alone k answer w });
     kept = λ memory. sym (ap (λ (z : Called). z .memory) (same (seen t) memory));
   }
     where
@@ -174,7 +178,8 @@ call-fits s l call known good is e =
 
 -- a call that is known
 pub known-ran :
-    (s : List ℕ) (l : Line) (call known : script.Call) (t : Seen) (memory : List ℕ) (k : ℕ) (out : List ℕ) (r : Stepped) (memory′ out′ : List ℕ)
+    (s : List ℕ) (l : Line) (call known : script.Call) (t : Seen) (memory : List ℕ) (k : ℕ) (out : List ℕ) (r : Stepped)
+    (memory′ out′ : List ℕ)
     → call ≡ callOf (callKind (l .kind)) s l
     → call ≡ known
     → CallRan (called (asked s known) t memory) k out r memory′ out′

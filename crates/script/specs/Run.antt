@@ -71,6 +71,11 @@ pub record Called : Type 0 where
 -- functions that run a call take every state.
 abbrev pub called : Call → Seen → List ℕ → Called
 called c (sound v) memory =
-    record { answer = answerTo v memory c; shown = shownBy v memory c; state = sound (stateAfter v memory c); memory = memoryAfter v memory c }
+    record {
+      answer = answerTo v memory c;
+      shown = shownBy v memory c;
+      state = sound (stateAfter v memory c);
+      memory = memoryAfter v memory c;
+    }
 called c (unsound t) memory =
     record { answer = refused Refusal.BadState; shown = []; state = unsound t; memory = memory }

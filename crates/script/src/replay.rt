@@ -44,8 +44,10 @@ fn write_next(script: &[u8], done: Report, bytes: &[u8]) -> Report
     if written {
         written = io::write_all(1, bytes);
     }
+    let n = bytes.len();
+    let total = done.bytes + n;
     Report {
-        bytes: done.bytes + bytes.len(),
+        bytes: total,
         written,
     }
 }

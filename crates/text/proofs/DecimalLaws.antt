@@ -25,7 +25,8 @@ unfolding digitsOf
 more zero n h = rw (lt-ltb n 10 h)
 more (suc k) n h =
     let less : n / 10 < 10 ^ suc k = omega (arith, rw (pow-suc 10 (suc k)) at h) in
-    ⊎-elim (λ small. simp (lt-ltb n 10 small)) (λ large. simp (le-ltb n 10 large) (ap (λ (l : List ℕ). l ++ ((48 + n % 10) ∷ [])) (more k (n / 10) less))) (lt-or-le n 10)
+    ⊎-elim (λ small. simp (lt-ltb n 10 small))
+    (λ large. simp (le-ltb n 10 large) (ap (λ (l : List ℕ). l ++ ((48 + n % 10) ∷ [])) (more k (n / 10) less))) (lt-or-le n 10)
 
 pub decimal-more : (n : ℕ) → 10 ≤ n → n < 10 ^ 20 → decimalOf n ≡ decimalOf (n / 10) ++ ((48 + n % 10) ∷ [])
 unfolding decimalOf digitsOf
@@ -40,7 +41,9 @@ decimal-one n h = rw (lt-ltb n 10 h)
 digits-short : (k n : ℕ) → length (digitsOf k n) ≤ k
 unfolding digitsOf
 digits-short zero n = omega arith
-digits-short (suc k) n = ⊎-elim (λ small. simp (lt-ltb n 10 small) (omega arith)) (λ large. simp (le-ltb n 10 large, length-append) (omega (arith, digits-short k (n / 10)))) (lt-or-le n 10)
+digits-short (suc k) n =
+    ⊎-elim (λ small. simp (lt-ltb n 10 small) (omega arith))
+    (λ large. simp (le-ltb n 10 large, length-append) (omega (arith, digits-short k (n / 10)))) (lt-or-le n 10)
 
 pub decimal-short : (n : ℕ) → length (decimalOf n) ≤ 20
 unfolding decimalOf
@@ -52,7 +55,8 @@ placed b i v pos le =
     let in-b : i - 1 < length b = omega arith in
     let in-set : i - 1 < length (set b (i - 1) v) = simp length-set (omega arith) in
     let up : suc (i - 1) ≡ i = omega arith in
-    drop-cons (set b (i - 1) v) (i - 1) 0 in-set ∙ rw (getD-set-same b (i - 1) v 0 in-b, drop-set-lt (suc (i - 1)) b (i - 1) v (omega arith), up)
+    drop-cons (set b (i - 1) v) (i - 1) 0 in-set ∙ rw
+    (getD-set-same b (i - 1) v 0 in-b, drop-set-lt (suc (i - 1)) b (i - 1) v (omega arith), up)
 
 -- a number of more than one digit that fits i digits
 pub two-at-least : (r i : ℕ) → 10 ≤ r → r < 10 ^ i → 2 ≤ i

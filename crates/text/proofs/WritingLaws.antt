@@ -10,7 +10,11 @@ use borrow.Rule.Slice.PartMut.{putMid}
 use Rattle.text.specs.Writing.{Wrote}
 
 -- one text after another
-pub and-then : {b b′ b″ : List ℕ} {at r r′ v w : ℕ} {s t : List ℕ} → Wrote b at s v b′ r → Wrote b′ r t w b″ r′ → Wrote b at (s ++ t) (v + w) b″ r′
+pub and-then :
+    {b b′ b″ : List ℕ} {at r r′ v w : ℕ} {s t : List ℕ}
+    → Wrote b at s v b′ r
+    → Wrote b′ r t w b″ r′
+    → Wrote b at (s ++ t) (v + w) b″ r′
 and-then {b} {b′} {b″} {at} {r} {r′} {v} {w} {s} {t} p q = record {
   front = q .front ∙ ap (λ (l : List ℕ). l ++ t) (p .front) ∙ append-assoc (take at b) s t;
   next = q .next ∙ rw (p .next, length-append) (omega arith);

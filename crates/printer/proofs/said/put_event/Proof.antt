@@ -35,7 +35,8 @@ returns c =
     let kind = fail .before .before .before .before in
     let begun = kind .before .before .before .before in
     let a = begun .before .before .before .before .before .args in
-    event-said (a .k) (a .e) (begun .put-said .ensures) (kind .put-kind .ensures) (fail .put-fail .ensures) (source .put-event-source .ensures) (message .put-event-message .ensures)
+    event-said (a .k) (a .e) (begun .put-said .ensures) (kind .put-kind .ensures) (fail .put-fail .ensures)
+    (source .put-event-source .ensures) (message .put-event-message .ensures)
 
 pub put-event-spec : {M : Type 1} → statement M
 put-event-spec =

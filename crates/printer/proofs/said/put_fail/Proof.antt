@@ -33,7 +33,8 @@ same-length c = search needs
 returns : tie.Need-returns
 returns c =
     let arm = c .before .before .before .before .before in
-    text-of failText _ _ (sym (arm .before .before .fail-type .ensures) ∙ arm .enum-told .given .1) (omega arith) (c .before .before .put-bytes .ensures)
+    text-of failText _ _ (sym (arm .before .before .fail-type .ensures) ∙ arm .enum-told .given .1) (omega arith)
+    (c .before .before .put-bytes .ensures)
 
 same-length-2 : tie.Need-same-length-2
 same-length-2 c = search needs
@@ -41,7 +42,8 @@ same-length-2 c = search needs
 returns-2 : tie.Need-returns-2
 returns-2 c =
     let arm = c .before .before .before .before .before in
-    text-of failText _ _ (sym (arm .before .before .fail-type .ensures) ∙ arm .enum-told2 .given .1) (omega arith) (c .before .before .put-bytes2 .ensures)
+    text-of failText _ _ (sym (arm .before .before .fail-type .ensures) ∙ arm .enum-told2 .given .1) (omega arith)
+    (c .before .before .put-bytes2 .ensures)
 
 pub put-fail-spec : {M : Type 1} → statement M
 put-fail-spec =

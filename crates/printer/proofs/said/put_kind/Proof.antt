@@ -87,7 +87,8 @@ same-length c = search needs
 returns : tie.Need-returns
 returns c =
     let arm = c .before .before .before .before .before in
-    text-of kindText _ _ (sym (arm .before .before .event-kind .ensures) ∙ arm .enum-told .given .1) (omega arith) (c .before .before .put-bytes .ensures)
+    text-of kindText _ _ (sym (arm .before .before .event-kind .ensures) ∙ arm .enum-told .given .1) (omega arith)
+    (c .before .before .put-bytes .ensures)
 
 same-length-2 : tie.Need-same-length-2
 same-length-2 c = search needs
@@ -95,7 +96,8 @@ same-length-2 c = search needs
 returns-2 : tie.Need-returns-2
 returns-2 c =
     let arm = c .before .before .before .before .before in
-    text-of kindText _ _ (sym (arm .before .before .event-kind .ensures) ∙ arm .enum-told2 .given .1) (omega arith) (c .before .before .put-bytes2 .ensures)
+    text-of kindText _ _ (sym (arm .before .before .event-kind .ensures) ∙ arm .enum-told2 .given .1) (omega arith)
+    (c .before .before .put-bytes2 .ensures)
 
 same-length-3 : tie.Need-same-length-3
 same-length-3 c = search needs
@@ -103,7 +105,8 @@ same-length-3 c = search needs
 returns-3 : tie.Need-returns-3
 returns-3 c =
     let arm = c .before .before .before .before .before in
-    text-of kindText _ _ (sym (arm .before .before .event-kind .ensures) ∙ arm .enum-told3 .given .1) (omega arith) (c .before .before .put-bytes3 .ensures)
+    text-of kindText _ _ (sym (arm .before .before .event-kind .ensures) ∙ arm .enum-told3 .given .1) (omega arith)
+    (c .before .before .put-bytes3 .ensures)
 
 same-length-4 : tie.Need-same-length-4
 same-length-4 c = search needs
@@ -111,7 +114,8 @@ same-length-4 c = search needs
 returns-4 : tie.Need-returns-4
 returns-4 c =
     let arm = c .before .before .before .before .before in
-    text-of kindText _ _ (sym (arm .before .before .event-kind .ensures) ∙ arm .enum-told4 .given .1) (omega arith) (c .before .before .put-bytes4 .ensures)
+    text-of kindText _ _ (sym (arm .before .before .event-kind .ensures) ∙ arm .enum-told4 .given .1) (omega arith)
+    (c .before .before .put-bytes4 .ensures)
 
 same-length-5 : tie.Need-same-length-5
 same-length-5 c = search needs
@@ -119,7 +123,8 @@ same-length-5 c = search needs
 returns-5 : tie.Need-returns-5
 returns-5 c =
     let arm = c .before .before .before .before .before in
-    text-of kindText _ _ (sym (arm .before .before .event-kind .ensures) ∙ arm .enum-told5 .given .1) (omega arith) (c .before .before .put-bytes5 .ensures)
+    text-of kindText _ _ (sym (arm .before .before .event-kind .ensures) ∙ arm .enum-told5 .given .1) (omega arith)
+    (c .before .before .put-bytes5 .ensures)
 
 same-length-6 : tie.Need-same-length-6
 same-length-6 c = search needs
@@ -127,7 +132,8 @@ same-length-6 c = search needs
 returns-6 : tie.Need-returns-6
 returns-6 c =
     let arm = c .before .before .before .before .before in
-    text-of kindText _ _ (sym (arm .before .before .event-kind .ensures) ∙ arm .enum-told6 .given .1) (omega arith) (c .before .before .put-bytes6 .ensures)
+    text-of kindText _ _ (sym (arm .before .before .event-kind .ensures) ∙ arm .enum-told6 .given .1) (omega arith)
+    (c .before .before .put-bytes6 .ensures)
 
 same-length-7 : tie.Need-same-length-7
 same-length-7 c = search needs
@@ -135,7 +141,8 @@ same-length-7 c = search needs
 returns-7 : tie.Need-returns-7
 returns-7 c =
     let arm = c .before .before .before .before .before in
-    text-of kindText _ _ (sym (arm .before .before .event-kind .ensures) ∙ arm .enum-told7 .given .1) (omega arith) (c .before .before .put-bytes7 .ensures)
+    text-of kindText _ _ (sym (arm .before .before .event-kind .ensures) ∙ arm .enum-told7 .given .1) (omega arith)
+    (c .before .before .put-bytes7 .ensures)
 
 same-length-8 : tie.Need-same-length-8
 same-length-8 c = search needs
@@ -143,7 +150,8 @@ same-length-8 c = search needs
 returns-8 : tie.Need-returns-8
 returns-8 c =
     let arm = c .before .before .before .before .before in
-    text-of kindText _ _ (sym (arm .before .before .event-kind .ensures) ∙ arm .enum-told8 .given .1) (omega arith) (c .before .before .put-bytes8 .ensures)
+    text-of kindText _ _ (sym (arm .before .before .event-kind .ensures) ∙ arm .enum-told8 .given .1) (omega arith)
+    (c .before .before .put-bytes8 .ensures)
 
 pub put-kind-spec : {M : Type 1} → statement M
 put-kind-spec =

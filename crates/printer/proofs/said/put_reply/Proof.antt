@@ -36,7 +36,8 @@ same-length c = search needs
 returns : tie.Need-returns
 returns c =
     let a = c .before .before .before .before .before .before .before .before .before .args in
-    text-of (λ x. shownOf (requestAnswer x) (a .reply .now)) _ _ (c .before .before .before .before .before .a .given .1) (omega arith) (c .before .before .put-first .ensures)
+    text-of (λ x. shownOf (requestAnswer x) (a .reply .now)) _ _ (c .before .before .before .before .before .a .given .1)
+    (omega arith) (c .before .before .put-first .ensures)
 
 same-length-2 : tie.Need-same-length-2
 same-length-2 c = search needs
@@ -44,7 +45,8 @@ same-length-2 c = search needs
 returns-2 : tie.Need-returns-2
 returns-2 c =
     let a = c .before .before .before .before .before .before .before .before .before .args in
-    text-of (λ x. shownOf (requestAnswer x) (a .reply .now)) _ _ (c .before .before .before .before .before .a2 .given .1) (omega arith) (c .before .before .put-first2 .ensures)
+    text-of (λ x. shownOf (requestAnswer x) (a .reply .now)) _ _ (c .before .before .before .before .before .a2 .given .1)
+    (omega arith) (c .before .before .put-first2 .ensures)
 
 returns-3 : tie.Need-returns-3
 returns-3 c =

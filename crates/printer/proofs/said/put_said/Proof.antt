@@ -16,7 +16,9 @@ same-length : tie.Need-same-length
 same-length c = search needs
 
 returns : tie.Need-returns
-returns c = and-then (c .before .before .before .before .before .before .before .before .before .before .put-decimal .ensures) (and-then (c .before .before .before .before .before .before .put-bytes .ensures) (c .before .before .put-fields .ensures))
+returns c =
+    and-then (c .before .before .before .before .before .before .before .before .before .before .put-decimal .ensures)
+    (and-then (c .before .before .before .before .before .before .put-bytes .ensures) (c .before .before .put-fields .ensures))
 
 pub put-said-spec : {M : Type 1} → statement M
 put-said-spec =

@@ -20,7 +20,8 @@ same-length c = search needs
 returns : tie.Need-returns
 returns c =
     let a = c .before .before .before .before .before .before .before .before .args in
-    text-of (λ (l : List ℕ). l) _ _ (sym (none-shown (a .bytes .now) (c .before .before .before .before .before .if1 .taken))) (omega arith) (c .before .before .put-bytes .ensures)
+    text-of (λ (l : List ℕ). l) _ _ (sym (none-shown (a .bytes .now) (c .before .before .before .before .before .if1 .taken)))
+    (omega arith) (c .before .before .put-bytes .ensures)
 
 put-byte-requires : tie.Need-put-byte-requires
 put-byte-requires c κs = search needs
@@ -35,7 +36,9 @@ returns-2 : tie.Need-returns-2
 returns-2 c =
     let a = c .before .before .before .before .before .before .before .before .before .before .before .args in
     let both = and-then (c .before .before .before .before .before .before .put-byte .ensures) (c .before .before .put-hex .ensures) in
-    text-of (λ (l : List ℕ). l) _ _ (sym (some-shown (a .bytes .now) (c .before .before .before .before .before .before .before .before .if1 .left))) (omega arith) both
+    text-of (λ (l : List ℕ). l) _ _
+    (sym (some-shown (a .bytes .now) (c .before .before .before .before .before .before .before .before .if1 .left)))
+    (omega arith) both
 
 pub put-shown-spec : {M : Type 1} → statement M
 put-shown-spec =

@@ -34,7 +34,8 @@ write-next-requires c κs =
     let put = numbered .before .before .before .before .before in
     let i = put .before .before .before .before .before in
     let wrote = and-then (and-then (put .put-bytes .ensures) (numbered .put-fields .ensures)) (ended .put-byte .ensures) in
-    whole-next (i .args .script .now) (i .args .begun) _ _ _ _ _ (i .pre .1 .0) (call-printout (i .args .script .now) (i .args .call) (i .pre .0)) (omega arith) wrote
+    whole-next (i .args .script .now) (i .args .begun) _ _ _ _ _ (i .pre .1 .0)
+    (call-printout (i .args .script .now) (i .args .call) (i .pre .0)) (omega arith) wrote
 
 same-length : tie.Need-same-length
 same-length c = search needs
@@ -46,7 +47,9 @@ returns c =
     let put = numbered .before .before .before .before .before in
     let i = put .before .before .before .before .before in
     let wrote = and-then (and-then (put .put-bytes .ensures) (numbered .put-fields .ensures)) (ended .put-byte .ensures) in
-    whole-done (i .args .script .now) (i .args .begun) _ _ _ _ _ (i .pre .1 .0) (call-printout (i .args .script .now) (i .args .call) (i .pre .0)) (omega arith) wrote (c .write-next .result) (c .write-next .ensures)
+    whole-done (i .args .script .now) (i .args .begun) _ _ _ _ _ (i .pre .1 .0)
+    (call-printout (i .args .script .now) (i .args .call) (i .pre .0)) (omega arith) wrote (c .write-next .result)
+    (c .write-next .ensures)
 
 pub report-call-spec : {M : Type 1} → statement M
 report-call-spec =

@@ -22,7 +22,8 @@ write-next-requires c κs =
     let put = c .before .before .before in
     let i = put .before .before .before .before .before in
     let wrote = put .put-bytes .ensures in
-    whole-next (i .args .script .now) (i .args .begun) _ _ _ _ _ (i .pre .1 .0) (head-printout (i .args .script .now) (i .pre .0)) (omega arith) wrote
+    whole-next (i .args .script .now) (i .args .begun) _ _ _ _ _ (i .pre .1 .0)
+    (head-printout (i .args .script .now) (i .pre .0)) (omega arith) wrote
 
 same-length : tie.Need-same-length
 same-length c = search needs
@@ -32,7 +33,8 @@ returns c =
     let put = c .before .before .before .before in
     let i = put .before .before .before .before .before in
     let wrote = put .put-bytes .ensures in
-    whole-done (i .args .script .now) (i .args .begun) _ _ _ _ _ (i .pre .1 .0) (head-printout (i .args .script .now) (i .pre .0)) (omega arith) wrote (c .write-next .result) (c .write-next .ensures)
+    whole-done (i .args .script .now) (i .args .begun) _ _ _ _ _ (i .pre .1 .0)
+    (head-printout (i .args .script .now) (i .pre .0)) (omega arith) wrote (c .write-next .result) (c .write-next .ensures)
 
 pub report-head-spec : {M : Type 1} → statement M
 report-head-spec =

@@ -1,10 +1,10 @@
 use borrow.Author.Needs.{needs}
-use Prim.Native.Nat.{_-_}
-use mathlib.Core.Path.{_≡_, refl, sym, _∙_}
-use lib.ListN.{length, take}
-use lib.Seq.{length-take-le}
+use Prim.Native.Nat.{_-_, _<_}
+use Rattle.reader.specs.Contents.{headOf}
+use mathlib.Core.Path.{_≡_, refl, _∙_}
+use lib.ListN.{length, length-take}
 use Rattle.reader.proofs.JudgingLaws.{good-head, good-calls}
-use Rattle.script.proofs.ReplayLaws.{Going, going-begins, going-next, going-on, going-ends}
+use Rattle.script.proofs.ReplayLaws.{line-inside, line-fits, Going, going-begins, going-next, going-on, going-ends}
 use native.Mathlib.Omega.{arith}
 use Rattle.script.proofs.replay.run_lines.Statement.{statement}
 use Rattle.script.proofs.replay.run_lines.Tie as tie
@@ -30,13 +30,17 @@ loop-holds c =
     let made = c .before .before in
     let i = made .before .before .before .before .before in
     let a = i .args in
-    (refl, (refl, going-begins (a .script .now) (made .before .head-of .result) (a .begun) (made .new .result .target) (a .memory .now) (made .before .head-of .ensures) (i .pre .0) (i .pre .1 .0) (made .new .ensures .state) (i .pre .1 .1 .0)))
+    let begins =
+    going-begins (a .script .now) (made .before .head-of .result) (a .begun) (made .new .result .target) (a .memory .now)
+    (made .before .head-of .ensures) (i .pre .0) (i .pre .1 .0) (made .new .ensures .state) (i .pre .1 .1 .0) in
+    (refl, (refl, begins))
 
 run-line-requires : tie.Need-run-line-requires Inv-loop μ-loop
 run-line-requires c κs =
     let l = c .before .before .before .loop in
     let i = c .before .before .before .before .before .before .before .before .before .before .before in
-    (good-calls (i .args .script .now) (l .k) (i .pre .0) (omega (arith, c .before .before .loop-test .taken, l .inv .1 .1 .counted)), omega (arith, i .pre .1 .1 .1, l .inv .1 .0))
+    let inside : l .k < headOf (i .args .script .now) .count = omega (arith, c .before .before .loop-test .taken, l .inv .1 .1 .counted) in
+    (good-calls (i .args .script .now) (l .k) (i .pre .0) inside, omega (arith, i .pre .1 .1 .1, l .inv .1 .0))
 
 slice-reshare-prefix-write-next : tie.Need-slice-reshare-prefix-write-next Inv-loop μ-loop
 slice-reshare-prefix-write-next c =
@@ -44,7 +48,8 @@ slice-reshare-prefix-write-next c =
     let l = ran .before .before .before .before .loop in
     let i = ran .before .before .before .before .before .before .before .before .before .before .before .before in
     let step = ran .run-line in
-    omega (arith, step .ensures .short, step .kept .1 .1 .1 .1 .0, l .inv .1 .0, i .pre .1 .1 .1)
+    line-inside (step .result .length) (i .args .out .now) (l .out) (step .last .1 .1 .1 .1 .0)
+    (step .ensures .short) (i .pre .1 .1 .1) (l .inv .1 .0) (step .kept .1 .1 .1 .1 .0)
 
 slice-aggregate-write-next : tie.Need-slice-aggregate-write-next Inv-loop μ-loop
 slice-aggregate-write-next c =
@@ -52,8 +57,10 @@ slice-aggregate-write-next c =
     let l = ran .before .before .before .before .loop in
     let i = ran .before .before .before .before .before .before .before .before .before .before .before .before in
     let step = ran .run-line in
-    let fits : length (take (step .result .length) (step .last .1 .1 .1 .1 .0)) ≡ step .result .length = length-take-le (step .result .length) (step .last .1 .1 .1 .1 .0) (omega (arith, step .ensures .short, step .kept .1 .1 .1 .1 .0, l .inv .1 .0, i .pre .1 .1 .1)) in
-    sym fits
+    let inside =
+    line-inside (step .result .length) (i .args .out .now) (l .out) (step .last .1 .1 .1 .1 .0)
+    (step .ensures .short) (i .pre .1 .1 .1) (l .inv .1 .0) (step .kept .1 .1 .1 .1 .0) in
+    simp length-take (omega (arith, inside))
 
 write-next-requires : tie.Need-write-next-requires Inv-loop μ-loop
 write-next-requires c κs =
@@ -61,8 +68,11 @@ write-next-requires c κs =
     let l = ran .before .before .before .before .loop in
     let i = ran .before .before .before .before .before .before .before .before .before .before .before .before in
     let step = ran .run-line in
-    let fits : length (take (step .result .length) (step .last .1 .1 .1 .1 .0)) ≡ step .result .length = length-take-le (step .result .length) (step .last .1 .1 .1 .1 .0) (omega (arith, step .ensures .short, step .kept .1 .1 .1 .1 .0, l .inv .1 .0, i .pre .1 .1 .1)) in
-    going-next (i .args .script .now) _ (l .k) (l .done) (l .t) (l .memory) (l .inv .1 .1) (step .result) _ _ (ran .before .before .before .loop-test .taken) (step .ensures) fits
+    let fits =
+    line-fits (step .result .length) (i .args .out .now) (l .out) (step .last .1 .1 .1 .1 .0)
+    (step .ensures .short) (i .pre .1 .1 .1) (l .inv .1 .0) (step .kept .1 .1 .1 .1 .0) in
+    going-next (i .args .script .now) _ (l .k) (l .done) (l .t) (l .memory) (l .inv .1 .1) (step .result) _ _
+    (ran .before .before .before .loop-test .taken) (step .ensures) fits
 
 add-k : tie.Need-add-k Inv-loop μ-loop
 add-k c = search needs
@@ -78,8 +88,13 @@ loop-again c =
     let l = ran .before .before .before .before .loop in
     let i = ran .before .before .before .before .before .before .before .before .before .before .before .before in
     let step = ran .run-line in
-    let fits : length (take (step .result .length) (step .last .1 .1 .1 .1 .0)) ≡ step .result .length = length-take-le (step .result .length) (step .last .1 .1 .1 .1 .0) (omega (arith, step .ensures .short, step .kept .1 .1 .1 .1 .0, l .inv .1 .0, i .pre .1 .1 .1)) in
-    (step .kept .1 .0 ∙ l .inv .0, (step .kept .1 .1 .1 .1 .0 ∙ l .inv .1 .0, going-on (i .args .script .now) _ (l .k) (l .done) (l .t) (l .memory) (l .inv .1 .1) (step .result) _ _ (ran .before .before .before .loop-test .taken) (step .ensures) (c .write-next .result) fits (c .write-next .ensures)))
+    let fits =
+    line-fits (step .result .length) (i .args .out .now) (l .out) (step .last .1 .1 .1 .1 .0)
+    (step .ensures .short) (i .pre .1 .1 .1) (l .inv .1 .0) (step .kept .1 .1 .1 .1 .0) in
+    let on =
+    going-on (i .args .script .now) _ (l .k) (l .done) (l .t) (l .memory) (l .inv .1 .1) (step .result) _ _
+    (ran .before .before .before .loop-test .taken) (step .ensures) (c .write-next .result) fits (c .write-next .ensures) in
+    (step .kept .1 .0 ∙ l .inv .0, (step .kept .1 .1 .1 .1 .0 ∙ l .inv .1 .0, on))
 
 same-length : tie.Need-same-length Inv-loop μ-loop
 same-length c = c .before .loop .inv .0

@@ -21,7 +21,8 @@ returns c =
     let printed = c .before .before .before in
     let called = printed .before .before in
     let a = called .before .before .args in
-    ran (Calls.append (a .e)) (a .k) _ _ _ (λ v. early.append v (a .e)) (seen (a .t)) _ (λ v memory. refl) (called .append .ensures .outcome) refl (printed .append-said .ensures)
+    ran (Calls.append (a .e)) (a .k) _ _ _ (λ v. early.append v (a .e)) (seen (a .t)) _ (λ v memory. refl)
+    (called .append .ensures .outcome) refl (printed .append-said .ensures)
 
 pub run-append-spec : {M : Type 1} → statement M
 run-append-spec = tie.close (tie.spec append-requires append-said-requires same-length returns)

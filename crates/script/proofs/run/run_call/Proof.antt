@@ -102,7 +102,8 @@ returns c =
     let arm = ran .before .before .before in
     let call = arm .before .before .call-of in
     let a = arm .before .before .before .before .before .before .args in
-    known-ran (a .script .now) (a .l) _ _ (seen (a .t)) (a .memory .now) (a .k) _ _ _ _ (call .ensures) (arm .e .given .1) (leaves _ _ (a .memory .now) (a .k) _ _ _ (ran .run-append .ensures))
+    known-ran (a .script .now) (a .l) _ _ (seen (a .t)) (a .memory .now) (a .k) _ _ _ _ (call .ensures) (arm .e .given .1)
+    (leaves _ _ (a .memory .now) (a .k) _ _ _ (ran .run-append .ensures))
 
 same-length-2 : tie.Need-same-length-2
 same-length-2 c = search needs
@@ -113,7 +114,8 @@ returns-2 c =
     let arm = ran .before .before .before in
     let call = arm .before .before .call-of in
     let a = arm .before .before .before .before .before .before .args in
-    known-ran (a .script .now) (a .l) _ _ (seen (a .t)) (a .memory .now) (a .k) _ _ _ _ (call .ensures) (arm .handle .given .1) (leaves _ _ (a .memory .now) (a .k) _ _ _ (ran .run-unlink .ensures))
+    known-ran (a .script .now) (a .l) _ _ (seen (a .t)) (a .memory .now) (a .k) _ _ _ _ (call .ensures) (arm .handle .given .1)
+    (leaves _ _ (a .memory .now) (a .k) _ _ _ (ran .run-unlink .ensures))
 
 same-length-3 : tie.Need-same-length-3
 same-length-3 c = search needs
@@ -127,7 +129,8 @@ returns-3 c =
     let arm = ran .before .before .before .before .before in
     let call = arm .before .before .call-of in
     let a = arm .before .before .before .before .before .before .args in
-    known-ran (a .script .now) (a .l) _ _ (seen (a .t)) (a .memory .now) (a .k) _ _ _ _ (call .ensures) (arm .request .given .1) (ran .run-put .ensures)
+    known-ran (a .script .now) (a .l) _ _ (seen (a .t)) (a .memory .now) (a .k) _ _ _ _ (call .ensures) (arm .request .given .1)
+    (ran .run-put .ensures)
 
 same-length-5 : tie.Need-same-length-5
 same-length-5 c = search needs
@@ -141,7 +144,9 @@ returns-4 c =
     let arm = ran .before .before .before .before in
     let call = arm .before .before .call-of in
     let a = arm .before .before .before .before .before .before .args in
-    known-ran (a .script .now) (a .l) _ _ (seen (a .t)) (a .memory .now) (a .k) _ _ _ _ (call .ensures) (arm .request2 .given .1) (get-leaves (arm .request2 .given .0 .0) (replicate (arm .request2 .given .0 .1 .0) 0) (seen (a .t)) (a .memory .now) (a .k) _ _ _ (ran .run-get .ensures))
+    known-ran (a .script .now) (a .l) _ _ (seen (a .t)) (a .memory .now) (a .k) _ _ _ _ (call .ensures)
+    (arm .request2 .given .1)
+    (get-leaves (arm .request2 .given .0 .0) (replicate (arm .request2 .given .0 .1 .0) 0) (seen (a .t)) (a .memory .now) (a .k) _ _ _ (ran .run-get .ensures))
 
 same-length-7 : tie.Need-same-length-7
 same-length-7 c = search needs
@@ -152,7 +157,8 @@ returns-5 c =
     let arm = ran .before .before in
     let call = arm .before .before .call-of in
     let a = arm .before .before .before .before .before .before .args in
-    known-ran (a .script .now) (a .l) _ _ (seen (a .t)) (a .memory .now) (a .k) _ _ _ _ (call .ensures) (arm .enum-told .given .1) (leaves _ _ (a .memory .now) (a .k) _ _ _ (ran .run-read-event .ensures))
+    known-ran (a .script .now) (a .l) _ _ (seen (a .t)) (a .memory .now) (a .k) _ _ _ _ (call .ensures)
+    (arm .enum-told .given .1) (leaves _ _ (a .memory .now) (a .k) _ _ _ (ran .run-read-event .ensures))
 
 same-length-8 : tie.Need-same-length-8
 same-length-8 c = search needs
@@ -163,7 +169,8 @@ returns-6 c =
     let arm = ran .before .before .before in
     let call = arm .before .before .call-of in
     let a = arm .before .before .before .before .before .before .args in
-    known-ran (a .script .now) (a .l) _ _ (seen (a .t)) (a .memory .now) (a .k) _ _ _ _ (call .ensures) (arm .n .given .1) (leaves _ _ (a .memory .now) (a .k) _ _ _ (ran .run-read-counter .ensures))
+    known-ran (a .script .now) (a .l) _ _ (seen (a .t)) (a .memory .now) (a .k) _ _ _ _ (call .ensures) (arm .n .given .1)
+    (leaves _ _ (a .memory .now) (a .k) _ _ _ (ran .run-read-counter .ensures))
 
 same-length-9 : tie.Need-same-length-9
 same-length-9 c = search needs
@@ -174,7 +181,8 @@ returns-7 c =
     let arm = ran .before .before .before in
     let call = arm .before .before .call-of in
     let a = arm .before .before .before .before .before .before .args in
-    known-ran (a .script .now) (a .l) _ _ (seen (a .t)) (a .memory .now) (a .k) _ _ _ _ (call .ensures) (arm .x .given .1) (leaves _ _ (a .memory .now) (a .k) _ _ _ (ran .run-set-counter .ensures))
+    known-ran (a .script .now) (a .l) _ _ (seen (a .t)) (a .memory .now) (a .k) _ _ _ _ (call .ensures) (arm .x .given .1)
+    (leaves _ _ (a .memory .now) (a .k) _ _ _ (ran .run-set-counter .ensures))
 
 same-length-10 : tie.Need-same-length-10
 same-length-10 c = search needs
@@ -185,7 +193,8 @@ returns-8 c =
     let arm = ran .before .before .before in
     let call = arm .before .before .call-of in
     let a = arm .before .before .before .before .before .before .args in
-    known-ran (a .script .now) (a .l) _ _ (seen (a .t)) (a .memory .now) (a .k) _ _ _ _ (call .ensures) (arm .x2 .given .1) (leaves _ _ (a .memory .now) (a .k) _ _ _ (ran .run-increment .ensures))
+    known-ran (a .script .now) (a .l) _ _ (seen (a .t)) (a .memory .now) (a .k) _ _ _ _ (call .ensures) (arm .x2 .given .1)
+    (leaves _ _ (a .memory .now) (a .k) _ _ _ (ran .run-increment .ensures))
 
 same-length-11 : tie.Need-same-length-11
 same-length-11 c = search needs
@@ -196,7 +205,8 @@ returns-9 c =
     let arm = ran .before .before .before in
     let call = arm .before .before .call-of in
     let a = arm .before .before .before .before .before .before .args in
-    known-ran (a .script .now) (a .l) _ _ (seen (a .t)) (a .memory .now) (a .k) _ _ _ _ (call .ensures) (arm .e2 .given .1) (leaves _ _ (a .memory .now) (a .k) _ _ _ (ran .run-search .ensures))
+    known-ran (a .script .now) (a .l) _ _ (seen (a .t)) (a .memory .now) (a .k) _ _ _ _ (call .ensures) (arm .e2 .given .1)
+    (leaves _ _ (a .memory .now) (a .k) _ _ _ (ran .run-search .ensures))
 
 same-length-12 : tie.Need-same-length-12
 same-length-12 c = search needs
@@ -207,7 +217,8 @@ returns-10 c =
     let arm = ran .before .before .before in
     let call = arm .before .before .call-of in
     let a = arm .before .before .before .before .before .before .args in
-    known-ran (a .script .now) (a .l) _ _ (seen (a .t)) (a .memory .now) (a .k) _ _ _ _ (call .ensures) (arm .n2 .given .1) (leaves _ _ (a .memory .now) (a .k) _ _ _ (ran .run-read-register .ensures))
+    known-ran (a .script .now) (a .l) _ _ (seen (a .t)) (a .memory .now) (a .k) _ _ _ _ (call .ensures) (arm .n2 .given .1)
+    (leaves _ _ (a .memory .now) (a .k) _ _ _ (ran .run-read-register .ensures))
 
 pub run-call-spec : {M : Type 1} → statement M
 run-call-spec =

@@ -14,7 +14,9 @@ array-borrow-prefix-reply : tie.Need-array-borrow-prefix-reply
 array-borrow-prefix-reply c = search needs
 
 slice-aggregate-run-get-into : tie.Need-slice-aggregate-run-get-into
-slice-aggregate-run-get-into c = sym (zero-length (c .before .zero-bytes .result) SCRIPT-MEMORY (c .before .before .before .before .args .asked) (c .before .zero-bytes .ensures) (omega arith))
+slice-aggregate-run-get-into c =
+    sym
+    (zero-length (c .before .zero-bytes .result) SCRIPT-MEMORY (c .before .before .before .before .args .asked) (c .before .zero-bytes .ensures) (omega arith))
 
 run-get-into-requires : tie.Need-run-get-into-requires
 run-get-into-requires c κs =

@@ -32,7 +32,8 @@ returns c =
     let called = ended .before .before .before .before .before .before in
     let line = called .before .before .before in
     let i = line .before .before .before .before in
-    line-ran (i .args .script .now) (line .line-at .result) (seen (i .args .t)) (i .args .memory .now) (i .args .k) _ _ (called .run-call .result) _ _ _ (line .line-at .ensures) (called .run-call .ensures) (ended .put-byte .ensures)
+    line-ran (i .args .script .now) (line .line-at .result) (seen (i .args .t)) (i .args .memory .now) (i .args .k) _ _
+    (called .run-call .result) _ _ _ (line .line-at .ensures) (called .run-call .ensures) (ended .put-byte .ensures)
 
 pub run-line-spec : {M : Type 1} → statement M
 run-line-spec =

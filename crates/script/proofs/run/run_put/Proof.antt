@@ -22,7 +22,8 @@ returns c =
     let printed = c .before .before .before in
     let called = printed .before .before .before .before in
     let a = called .before .before .before .before .before .args in
-    put-ran (a .memory .now) (a .q) (a .k) _ _ _ (a .payload .now) (seen (a .t)) _ _ (called .put .ensures .outcome) refl refl (printed .request-said .ensures)
+    put-ran (a .memory .now) (a .q) (a .k) _ _ _ (a .payload .now) (seen (a .t)) _ _ (called .put .ensures .outcome) refl refl
+    (printed .request-said .ensures)
 
 pub run-put-spec : {M : Type 1} → statement M
 run-put-spec =

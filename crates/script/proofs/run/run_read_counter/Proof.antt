@@ -20,7 +20,8 @@ returns c =
     let printed = c .before .before in
     let called = printed .before .before in
     let a = called .before .before .args in
-    read-ran (Calls.readCounter (a .n)) (a .k) _ _ _ (λ v. counters.readCounter v (a .n)) (a .t) _ (λ v memory. refl) (called .read-counter .ensures .outcome) refl (printed .counter-said .ensures)
+    read-ran (Calls.readCounter (a .n)) (a .k) _ _ _ (λ v. counters.readCounter v (a .n)) (a .t) _ (λ v memory. refl)
+    (called .read-counter .ensures .outcome) refl (printed .counter-said .ensures)
 
 pub run-read-counter-spec : {M : Type 1} → statement M
 run-read-counter-spec =

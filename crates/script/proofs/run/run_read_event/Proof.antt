@@ -21,7 +21,8 @@ returns c =
     let printed = c .before .before .before in
     let called = printed .before .before in
     let a = called .before .before .args in
-    ran Calls.readEvent (a .k) _ _ _ (λ v. events.readEvent v) (seen (a .t)) _ (λ v memory. refl) (called .read-event .ensures .outcome) refl (printed .event-said .ensures)
+    ran Calls.readEvent (a .k) _ _ _ (λ v. events.readEvent v) (seen (a .t)) _ (λ v memory. refl)
+    (called .read-event .ensures .outcome) refl (printed .event-said .ensures)
 
 pub run-read-event-spec : {M : Type 1} → statement M
 run-read-event-spec =

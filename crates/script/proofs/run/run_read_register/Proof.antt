@@ -20,7 +20,8 @@ returns c =
     let printed = c .before .before in
     let called = printed .before .before in
     let a = called .before .before .args in
-    read-ran (Calls.readRegister (a .n)) (a .k) _ _ _ (λ v. counters.readRegister v (a .n)) (a .t) _ (λ v memory. refl) (called .read-register .ensures .outcome) refl (printed .register-said .ensures)
+    read-ran (Calls.readRegister (a .n)) (a .k) _ _ _ (λ v. counters.readRegister v (a .n)) (a .t) _ (λ v memory. refl)
+    (called .read-register .ensures .outcome) refl (printed .register-said .ensures)
 
 pub run-read-register-spec : {M : Type 1} → statement M
 run-read-register-spec =

@@ -21,7 +21,8 @@ returns c =
     let printed = c .before .before .before in
     let called = printed .before .before in
     let a = called .before .before .args in
-    ran (Calls.search (a .e)) (a .k) _ _ _ (λ v. early.search v (a .e)) (seen (a .t)) _ (λ v memory. refl) (called .search .ensures .outcome) refl (printed .search-said .ensures)
+    ran (Calls.search (a .e)) (a .k) _ _ _ (λ v. early.search v (a .e)) (seen (a .t)) _ (λ v memory. refl)
+    (called .search .ensures .outcome) refl (printed .search-said .ensures)
 
 pub run-search-spec : {M : Type 1} → statement M
 run-search-spec = tie.close (tie.spec search-requires search-said-requires same-length returns)

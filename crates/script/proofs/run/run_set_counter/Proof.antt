@@ -21,7 +21,8 @@ returns c =
     let printed = c .before .before .before in
     let called = printed .before .before in
     let a = called .before .before .args in
-    ran (Calls.setCounter (a .x)) (a .k) _ _ _ (λ v. counters.setCounter v (a .x)) (seen (a .t)) _ (λ v memory. refl) (called .set-counter .ensures .outcome) refl (printed .plain-said .ensures)
+    ran (Calls.setCounter (a .x)) (a .k) _ _ _ (λ v. counters.setCounter v (a .x)) (seen (a .t)) _ (λ v memory. refl)
+    (called .set-counter .ensures .outcome) refl (printed .plain-said .ensures)
 
 pub run-set-counter-spec : {M : Type 1} → statement M
 run-set-counter-spec =

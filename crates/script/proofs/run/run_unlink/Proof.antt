@@ -21,7 +21,8 @@ returns c =
     let printed = c .before .before .before in
     let called = printed .before .before in
     let a = called .before .before .args in
-    ran (Calls.unlink (a .handle)) (a .k) _ _ _ (λ v. early.unlink v (a .handle)) (seen (a .t)) _ (λ v memory. refl) (called .unlink .ensures .outcome) refl (printed .plain-said .ensures)
+    ran (Calls.unlink (a .handle)) (a .k) _ _ _ (λ v. early.unlink v (a .handle)) (seen (a .t)) _ (λ v memory. refl)
+    (called .unlink .ensures .outcome) refl (printed .plain-said .ensures)
 
 pub run-unlink-spec : {M : Type 1} → statement M
 run-unlink-spec = tie.close (tie.spec unlink-requires plain-said-requires same-length returns)

@@ -11,7 +11,8 @@ use Rattle.text.proofs.decimals.digits.Statement.{statement}
 use Rattle.text.proofs.decimals.digits.Tie as tie
 
 abbrev Inv-loop : tie.InvT-loop
-Inv-loop n buffer₀ rest₀ i₀ buffer rest i = (length buffer ≡ 20) × (((1 ≤ i) × (i ≤ 20)) × ((rest < 10 ^ i) × (decimalOf n ≡ decimalOf rest ++ drop i buffer)))
+Inv-loop n buffer₀ rest₀ i₀ buffer rest i =
+    (length buffer ≡ 20) × (((1 ≤ i) × (i ≤ 20)) × ((rest < 10 ^ i) × (decimalOf n ≡ decimalOf rest ++ drop i buffer)))
 
 abbrev μ-loop : tie.MeasureT-loop
 μ-loop n buffer₀ rest₀ i₀ buffer rest i = rest
@@ -47,7 +48,8 @@ loop-again c =
         (omega arith, omega arith),
         (
           next-fits (l .rest) (l .i) (omega arith) (inv .1 .1 .0),
-          inv .1 .1 .1 ∙ rw (decimal-more (l .rest) (omega arith) top, placed (l .buffer) (l .i) (48 + l .rest % 10) (omega arith) (omega arith), append-assoc),
+          inv .1 .1 .1 ∙ rw
+              (decimal-more (l .rest) (omega arith) top, placed (l .buffer) (l .i) (48 + l .rest % 10) (omega arith) (omega arith), append-assoc),
         ),
       ),
     )

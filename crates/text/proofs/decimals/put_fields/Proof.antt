@@ -44,7 +44,8 @@ loop-again c =
       omega arith,
       (
         put .kept .0 ∙ l .inv .1 .0,
-        each-goes-on fieldOf (a .out .now) (l .out) (put .last .0) (a .numbers .now) (a .at) (l .i) (l .end) (put .result) 21 (omega arith) (l .inv .1 .1) (put .ensures),
+        each-goes-on fieldOf (a .out .now) (l .out) (put .last .0) (a .numbers .now) (a .at) (l .i) (l .end) (put .result) 21
+            (omega arith) (l .inv .1 .1) (put .ensures),
       ),
     )
 

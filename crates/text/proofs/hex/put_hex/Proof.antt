@@ -41,7 +41,8 @@ loop-again c =
       omega arith,
       (
         put .kept .0 ∙ l .inv .1 .0,
-        each-goes-on hexByte (a .out .now) (l .out) (put .last .0) (a .bytes .now) (a .at) (l .i) (l .end) (put .result) 2 (omega arith) (l .inv .1 .1) (put .ensures),
+        each-goes-on hexByte (a .out .now) (l .out) (put .last .0) (a .bytes .now) (a .at) (l .i) (l .end) (put .result) 2
+            (omega arith) (l .inv .1 .1) (put .ensures),
       ),
     )
 

@@ -34,7 +34,8 @@ returns c =
     let k : a .at + n - a .at ≡ n = omega arith in
     let part = take n (drop (a .at) (a .out .now)) in
     let filled : copy .last .1 .0 ≡ a .bytes .now
-    = copied (a .bytes .now) part (copy .last .1 .0) (length-take-le n (drop (a .at) (a .out .now)) (simp length-drop (omega arith))) (rw k at (copy .ensures .1)) in
+    = copied (a .bytes .now) part (copy .last .1 .0)
+    (length-take-le n (drop (a .at) (a .out .now)) (simp length-drop (omega arith))) (rw k at (copy .ensures .1)) in
     rw k (part-wrote (a .out .now) (a .bytes .now) (copy .last .1 .0) (a .at) n refl (omega arith) filled)
 
 pub put-bytes-spec : {M : Type 1} → statement M
