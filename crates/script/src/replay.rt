@@ -18,9 +18,9 @@ ghost use Rattle.script.specs.Promises.{LINE, Next};
 
 // How far a printout is written.
 pub struct Report {
-    // How many bytes of it were handed to standard output.
+    // How many of its bytes have come up to be handed to standard output.
     pub bytes: usize,
-    // It took all of them. After bytes that it did not take whole nothing more is handed over.
+    // It took all of them. Once it did not, nothing more is handed to it.
     pub written: bool,
 }
 
