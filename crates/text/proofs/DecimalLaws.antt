@@ -1,7 +1,7 @@
 -- Laws of `decimalOf`: what one digit adds, and how long it is. Assumes nothing.
 use Prim.Native.Nat.{ℕ, zero, suc, _+_, _-_, _/_, _%_, _^_, _≤_, _<_}
-use mathlib.Core.Path.{_≡_, refl, ap, _∙_}
-use mathlib.Core.List.{List, [], _∷_, _++_}
+use mathlib.Core.Path.{_≡_, refl, sym, ap, _∙_}
+use mathlib.Core.List.{List, [], _∷_, _++_, append-assoc}
 use mathlib.Core.Logic.{_⊎_, inl, inr, ⊎-elim}
 use mathlib.Core.Bool.{Bool, true, false}
 use native.Mathlib.Nat.{pow-suc, pow-le-pow-right}
@@ -28,13 +28,13 @@ more (suc k) n h =
     ⊎-elim (λ small. simp (lt-ltb n 10 small))
     (λ large. simp (le-ltb n 10 large) (ap (λ (l : List ℕ). l ++ ((48 + n % 10) ∷ [])) (more k (n / 10) less))) (lt-or-le n 10)
 
-pub decimal-more : (n : ℕ) → 10 ≤ n → n < 10 ^ 20 → decimalOf n ≡ decimalOf (n / 10) ++ ((48 + n % 10) ∷ [])
+decimal-more : (n : ℕ) → 10 ≤ n → n < 10 ^ 20 → decimalOf n ≡ decimalOf (n / 10) ++ ((48 + n % 10) ∷ [])
 unfolding decimalOf digitsOf
 decimal-more n large h =
     let less : n / 10 < 10 ^ 19 = omega arith in
     rw (le-ltb n 10 large) (ap (λ (l : List ℕ). l ++ ((48 + n % 10) ∷ [])) (more 18 (n / 10) less))
 
-pub decimal-one : (n : ℕ) → n < 10 → decimalOf n ≡ (48 + n) ∷ []
+decimal-one : (n : ℕ) → n < 10 → decimalOf n ≡ (48 + n) ∷ []
 unfolding decimalOf digitsOf
 decimal-one n h = rw (lt-ltb n 10 h)
 
@@ -50,7 +50,7 @@ unfolding decimalOf
 decimal-short n = digits-short 20 n
 
 -- a digit is put in front of what stands from i on
-pub placed : (b : List ℕ) (i v : ℕ) → 1 ≤ i → i ≤ length b → drop (i - 1) (set b (i - 1) v) ≡ v ∷ drop i b
+placed : (b : List ℕ) (i v : ℕ) → 1 ≤ i → i ≤ length b → drop (i - 1) (set b (i - 1) v) ≡ v ∷ drop i b
 placed b i v pos le =
     let in-b : i - 1 < length b = omega arith in
     let in-set : i - 1 < length (set b (i - 1) v) = simp length-set (omega arith) in
@@ -70,7 +70,32 @@ next-fits r (suc i) pos h =
     rw e (omega (arith, rw (pow-suc 10 i) at h))
 next-fits r zero pos h = omega arith
 
-pub fits-all : (r i : ℕ) → r < 10 ^ i → i ≤ 20 → r < 10 ^ 20
+fits-all : (r i : ℕ) → r < 10 ^ i → i ≤ 20 → r < 10 ^ 20
 fits-all r i h le =
     let top : 10 ^ i ≤ 10 ^ 20 = pow-le-pow-right (lit< tt) le in
     omega arith
+
+-- a turn of the loop: one more digit stands at the end of the buffer
+pub digit-turn :
+    (n : ℕ) (b : List ℕ) (r i : ℕ)
+    → 10 ≤ r
+    → r < 10 ^ i
+    → 1 ≤ i
+    → i ≤ 20
+    → i ≤ length b
+    → decimalOf n ≡ decimalOf r ++ drop i b
+    → decimalOf n ≡ decimalOf (r / 10) ++ drop (i - 1) (set b (i - 1) (48 + r % 10))
+digit-turn n b r i large fits pos le inside e =
+    e ∙ rw (decimal-more r large (fits-all r i fits le), placed b i (48 + r % 10) pos inside, append-assoc) refl
+
+-- after the loop: the first digit
+pub digit-last :
+    (n : ℕ) (b : List ℕ) (r i : ℕ)
+    → r < 10
+    → 1 ≤ i
+    → i ≤ length b
+    → decimalOf n ≡ decimalOf r ++ drop i b
+    → drop (i - 1) (set b (i - 1) (48 + r % 10)) ≡ decimalOf n
+digit-last n b r i small pos inside e =
+    let digit : r % 10 ≡ r = omega arith in
+    placed b i (48 + r % 10) pos inside ∙ sym (e ∙ rw (decimal-one r small, digit) refl)

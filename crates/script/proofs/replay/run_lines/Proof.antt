@@ -48,8 +48,10 @@ slice-reshare-prefix-write-next c =
     let l = ran .before .before .before .before .loop in
     let i = ran .before .before .before .before .before .before .before .before .before .before .before .before in
     let step = ran .run-line in
+    let inside =
     line-inside (step .result .length) (i .args .out .now) (l .out) (step .last .1 .1 .1 .1 .0)
-    (step .ensures .short) (i .pre .1 .1 .1) (l .inv .1 .0) (step .kept .1 .1 .1 .1 .0)
+    (step .ensures .short) (i .pre .1 .1 .1) (l .inv .1 .0) (step .kept .1 .1 .1 .1 .0) in
+    omega (arith, inside)
 
 slice-aggregate-write-next : tie.Need-slice-aggregate-write-next Inv-loop μ-loop
 slice-aggregate-write-next c =

@@ -1,12 +1,12 @@
-use Prim.Native.Nat.{_+_, _%_, _^_, _≤_, _<_}
-use mathlib.Core.Path.{_≡_, sym, _∙_}
-use mathlib.Core.List.{[], _++_, append-nil, append-assoc}
+use Prim.Native.Nat.{_^_, _≤_, _<_}
+use mathlib.Core.Path.{_≡_, sym}
+use mathlib.Core.List.{[], _++_, append-nil}
 use native.Mathlib.Omega.{arith}
 use borrow.Author.Needs.{needs}
 use lib.Seq.{drop-length}
 use lib.ListN.{length, drop, length-set}
 use Rattle.text.specs.Text.{decimalOf}
-use Rattle.text.proofs.DecimalLaws.{decimal-more, decimal-one, placed, two-at-least, next-fits, fits-all}
+use Rattle.text.proofs.DecimalLaws.{two-at-least, next-fits, digit-turn, digit-last}
 use Rattle.text.proofs.decimals.digits.Statement.{statement}
 use Rattle.text.proofs.decimals.digits.Tie as tie
 
@@ -39,20 +39,13 @@ loop-less c = search needs
 
 loop-again : tie.Need-loop-again Inv-loop μ-loop
 loop-again c =
+    let n = c .before .before .args .n in
     let l = c .before .loop in
     let inv = l .inv in
     let two : 2 ≤ l .i = two-at-least (l .rest) (l .i) (omega arith) (inv .1 .1 .0) in
-    let top : l .rest < 10 ^ 20 = fits-all (l .rest) (l .i) (inv .1 .1 .0) (inv .1 .0 .1) in (
-      simp length-set (inv .0),
-      (
-        (omega arith, omega arith),
-        (
-          next-fits (l .rest) (l .i) (omega arith) (inv .1 .1 .0),
-          inv .1 .1 .1 ∙ rw
-              (decimal-more (l .rest) (omega arith) top, placed (l .buffer) (l .i) (48 + l .rest % 10) (omega arith) (omega arith), append-assoc),
-        ),
-      ),
-    )
+    let turn =
+    digit-turn n (l .buffer) (l .rest) (l .i) (omega arith) (inv .1 .1 .0) (inv .1 .0 .0) (inv .1 .0 .1) (omega arith) (inv .1 .1 .1) in
+    (simp length-set (inv .0), ((omega arith, omega arith), (next-fits (l .rest) (l .i) (omega arith) (inv .1 .1 .0), turn)))
 
 sub-i-2 : tie.Need-sub-i-2 Inv-loop μ-loop
 sub-i-2 c = search needs
@@ -71,10 +64,10 @@ same-length c = simp length-set (omega arith)
 
 returns : tie.Need-returns Inv-loop μ-loop
 returns c =
+    let n = c .before .before .args .n in
     let l = c .before .loop in
     let inv = l .inv in
-    let digit : l .rest % 10 ≡ l .rest = omega arith in
-    (omega arith, placed (l .buffer) (l .i) (48 + l .rest % 10) (omega arith) (omega arith) ∙ sym (inv .1 .1 .1 ∙ rw (decimal-one (l .rest) (omega arith), digit)))
+    (omega arith, digit-last n (l .buffer) (l .rest) (l .i) (omega arith) (omega arith) (omega arith) (inv .1 .1 .1))
 
 pub digits-spec : {M : Type 1} → statement M
 digits-spec =
