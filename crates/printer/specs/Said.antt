@@ -87,7 +87,7 @@ answerText NONE-REACHED = []
 unfoldable pub said : ℕ → Answer → List ℕ
 said k answer = decimalOf k ++ answerText answer
 
--- which has so many bytes at most: the longest is an event's, 20 + 6 + 13 + 9 + 13 * 21 = 321
+-- a round number that it does not exceed: the longest is an event's, 20 + 6 + 13 + 9 + 13 * 21 = 321 bytes
 abbrev pub SAID : ℕ
 SAID = 350
 

@@ -36,7 +36,7 @@ pub record Ran (c : Called) (k : ℕ) (out : List ℕ) (r : Stepped) (out′ : L
   pub state : seen (r .target) ≡ c .state
   pub line : Wrote out 0 (said k (c .answer) ++ c .shown) TEXT out′ (r .length)
 
--- a call that is not lent the memory: what holds on every memory
+-- a call that is not lent the memory: what holds on every memory, which by its definition it leaves (`kept`)
 pub record RanOn (c : Call) (t : Seen) (k : ℕ) (out : List ℕ) (r : Stepped) (out′ : List ℕ) : Type 0 where
   pub ran : (memory : List ℕ) → Ran (called c t memory) k out r out′
   pub kept : (memory : List ℕ) → called c t memory .memory ≡ memory

@@ -1,4 +1,4 @@
-// Document 01, "Script and printout": a whole script, judged, run on a new target with zero memory, and printed line by line.
+// Document 01, "Script and printout": a whole script, judged, run on a new target with a memory of zeros, and printed line by line.
 use crate::run;
 use portals::making;
 use reader::contents;
@@ -20,7 +20,7 @@ ghost use Rattle.script.specs.Promises.{LINE, Next};
 pub struct Report {
     // How many of its bytes have come up to be handed to standard output.
     pub bytes: usize,
-    // It took all of them. Once it did not, nothing more is handed to it.
+    // Standard output took all of them. Once it did not, nothing more is handed to it.
     pub written: bool,
 }
 

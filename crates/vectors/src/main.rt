@@ -22,7 +22,7 @@ fn replay_argument(i: usize) {
     let mut path = io::buffer();
     let n = os::arg(i, &mut path);
     if !replay_file(&path[..n]) {
-        io::write_all(2, b"vectors: not replayed\n");
+        io::write_all(2, b"vectors: not replayed, or its printout not written\n");
     }
 }
 
