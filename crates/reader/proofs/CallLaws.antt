@@ -140,7 +140,7 @@ module _ (s : List ℕ) (l : Line) (formed : wellFormed s l ≡ true) where
 
 -- ## How many bytes a good body has at least
 
-abbrev pub leastBody : CallKind → ℕ
+abbrev leastBody : CallKind → ℕ
 leastBody CallKind.Append = 56
 leastBody CallKind.Unlink = 4
 leastBody CallKind.Put = 48

@@ -14,7 +14,7 @@ unfolding numberAt littleEndian
 no-bytes s at = refl
 
 -- one byte more, the least
-pub byte-more : (s : List ℕ) (at n : ℕ) → at < length s → numberAt s at (suc n) ≡ byteAt s at + 256 * numberAt s (suc at) n
+byte-more : (s : List ℕ) (at n : ℕ) → at < length s → numberAt s at (suc n) ≡ byteAt s at + 256 * numberAt s (suc at) n
 unfolding numberAt littleEndian
 byte-more s at n inside = rw (drop-cons s at 0 inside) refl
 

@@ -72,7 +72,7 @@ fn no_line() -> Line
 }
 
 // All body lengths that the first lines of the contents say.
-pub fn body_lengths(s: &[u8], count: usize) -> usize
+pub(crate) fn body_lengths(s: &[u8], count: usize) -> usize
     requires { ⌜ count ≤ CALLS ⌝ }
     ensures { λ r. ⌜ r ≡ bodyLengths (now (s .entry)) count 0 ⌝ }
 {

@@ -25,21 +25,21 @@ fn number_at(s: &[u8], at: usize, n: usize) -> u64
     number
 }
 
-pub fn u16_at(s: &[u8], at: usize) -> u16
+pub(crate) fn u16_at(s: &[u8], at: usize) -> u16
     requires { ⌜ at + 2 ≤ length (now s) ⌝ }
     ensures { λ r. ⌜ r ≡ numberAt (now (s .entry)) at 2 ⌝ }
 {
     number_at(s, at, 2) as u16
 }
 
-pub fn u32_at(s: &[u8], at: usize) -> u32
+pub(crate) fn u32_at(s: &[u8], at: usize) -> u32
     requires { ⌜ at + 4 ≤ length (now s) ⌝ }
     ensures { λ r. ⌜ r ≡ numberAt (now (s .entry)) at 4 ⌝ }
 {
     number_at(s, at, 4) as u32
 }
 
-pub fn u64_at(s: &[u8], at: usize) -> u64
+pub(crate) fn u64_at(s: &[u8], at: usize) -> u64
     requires { ⌜ at + 8 ≤ length (now s) ⌝ }
     ensures { λ r. ⌜ r ≡ numberAt (now (s .entry)) at 8 ⌝ }
 {

@@ -27,21 +27,21 @@ use Rattle.script.specs.declared.replay.Report.{Report}
 
 module _ (p : List ℕ) (n : ℕ) (piece rest : List ℕ) (left : drop n p ≡ piece ++ rest) where
   -- the piece is next
-  pub piece-next : take (length piece) (drop n p) ≡ piece
+  piece-next : take (length piece) (drop n p) ≡ piece
   piece-next = rw left (take-at piece rest (length piece) refl)
 
   -- and the rest is left behind it
-  pub rest-left : drop (n + length piece) p ≡ rest
+  rest-left : drop (n + length piece) p ≡ rest
   rest-left = sym (drop-drop (length piece) n p) ∙ rw left (drop-at piece rest (length piece) refl)
 
-  pub piece-inside : n ≤ length p → n + length piece ≤ length p
+  piece-inside : n ≤ length p → n + length piece ≤ length p
   piece-inside inside =
       let count : length p - n ≡ length piece + length rest
       = sym (length-drop n p) ∙ ap (λ (l : List ℕ). length l) left ∙ length-append piece rest in
       omega (arith, count, inside)
 
 -- where nothing is left, all was handed over
-pub none-left : (p : List ℕ) (n : ℕ) → drop n p ≡ [] → n ≤ length p → n ≡ length p
+none-left : (p : List ℕ) (n : ℕ) → drop n p ≡ [] → n ≤ length p → n ≡ length p
 none-left p n left inside =
     let count : length p - n ≡ 0 = sym (length-drop n p) ∙ ap (λ (l : List ℕ). length l) left in
     omega (arith, count, inside)

@@ -106,7 +106,7 @@ fn run_get_into(
 }
 
 // 16,384 zero bytes.
-pub fn zero_bytes() -> [u8; 16384]
+pub(crate) fn zero_bytes() -> [u8; 16384]
     ensures { λ r. ⌜ r ≡ replicate SCRIPT-MEMORY 0 ⌝ }
 {
     [0u8; 16384]
@@ -199,7 +199,13 @@ fn run_call(
 }
 
 // Runs call k of a script, and ends its line.
-pub fn run_line(t: Target, memory: &mut [u8], script: &[u8], k: usize, out: &mut [u8]) -> Stepped
+pub(crate) fn run_line(
+    t: Target,
+    memory: &mut [u8],
+    script: &[u8],
+    k: usize,
+    out: &mut [u8],
+) -> Stepped
     requires { ⌜ (wellFormed (now script) (lineAt (now script) k) ≡ true) × (LINE ≤ length (now out)) ⌝ }
     ensures { λ r. ⌜ LineRan (called (callAt (now (script .entry)) k) (seen t) (now (memory .entry))) k r (now (memory .exit)) (now (out .exit)) ⌝ }
 {
