@@ -3,14 +3,16 @@ use mathlib.Core.Path.{_≡_, refl, ap, sym, _∙_}
 use mathlib.Core.Bool.{Bool, true, false, not, cond, false≢true}
 use mathlib.Core.List.{List, [], _∷_}
 use Prim.Native.Nat.{ℕ, _<_}
-use borrow.Author.Tests.{not-true, not-false, ltb-true}
-use lib.Dec.{ltb}
+use borrow.Author.Tests.{not-true, not-false, ltb-true, eqb-true}
+use lib.Dec.{eqb, ltb}
+use lib.ListN.{length}
+use Rattle.matching.specs.Entry.{isCounter}
 use Rattle.matching.specs.Refusals.{noneBad}
 use Rattle.matching.specs.declared.refusals.Refusal.{Refusal}
 use Rattle.matching.specs.declared.refusals.Refusal.the-variants as Refusal
 use Rattle.matching.specs.declared.refusals.BadArgument.{BadArgument}
 use Rattle.matching.specs.declared.refusals.BadArgument.the-variants as BadArgument
-use Rattle.state.specs.Lists.{any, firstFrom, placeOr}
+use Rattle.state.specs.Lists.{every, any, firstFrom, placeOr}
 use Rattle.state.specs.Sizes.{COUNTERS}
 use Rattle.state.specs.View.{View, entriesOf, headersOf, viewOf, isLinkedAs}
 use Rattle.state.specs.Soundness.{names, isSound}
@@ -20,7 +22,7 @@ use Rattle.state.proofs.SlotLaws.{place-none, place-some}
 use Rattle.state.proofs.SoundLaws.{good-both}
 use Rattle.portals.specs.Refusals.{Condition, goodArguments, unlessRefused}
 use Rattle.portals.specs.Admission.{admissionIf, admission, isAdmitted, Admits}
-use Rattle.portals.specs.CounterCalls.{badCounterArgument, counterTests}
+use Rattle.portals.specs.CounterCalls.{badCounterArgument, counterTests, badPollArgument}
 use Rattle.portals.specs.EarlyMessages.{badHandleArgument, unlinkTests}
 use Rattle.portals.specs.declared.admission.Admission.{Admission}
 use Rattle.portals.specs.declared.admission.Admission.the-variants as Admission
@@ -115,6 +117,19 @@ counter-inside k t a found stores is-bad admits is e =
     let admitted = sym (admits-for found (badCounterArgument k) t a is-bad admits) ∙ admitted-is a (sym is ∙ e) in
     ltb-true k COUNTERS
     (good-both (ltb k COUNTERS) BadArgument.None BadArgument.Counter refl (admitted-passed (λ v. counterTests k) t admitted .0) .0)
+
+-- a poll that was admitted has lists of equal length
+pub lists-equal : (ks tests : List ℕ) (t : Target) (a : Admission) (found : BadArgument)
+    → found ≡ badPollArgument ks tests
+    → Admits (λ v. goodArguments found ∷ []) t a
+    → a ≡ Admission.Admitted
+    → length ks ≡ length tests
+lists-equal ks tests t a found is-bad admits e =
+    let admitted = sym (admits-for found (badPollArgument ks tests) t a is-bad admits) ∙ e in
+    let passed = admitted-passed (λ v. goodArguments (badPollArgument ks tests) ∷ []) t admitted .0 in
+    let counters = good-both (every isCounter ks) _ BadArgument.Counter refl passed in
+    eqb-true (length ks) (length tests)
+    (good-both (eqb (length ks) (length tests)) BadArgument.None BadArgument.ListLength refl (counters .1) .0)
 
 -- ## The handle of an unlink
 

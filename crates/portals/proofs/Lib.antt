@@ -5,6 +5,7 @@ pub mod CallLaws
 pub mod AdmitLaws
 pub mod MetLaws
 pub mod PartCalls
+pub mod PollLaws
 pub mod EarlyMet
 pub mod CasesHold
 pub mod RequestMet

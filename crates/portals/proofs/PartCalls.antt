@@ -23,16 +23,17 @@ use Rattle.state.specs.declared.layout.Queue.{Queue}
 use Rattle.state.specs.declared.layout.Counter.{Counter}
 use Rattle.state.specs.declared.layout.Counters.{Counters}
 use Rattle.state.specs.declared.layout.CounterChange.{CounterChange}
+use Rattle.state.specs.declared.layout.CounterTest.{CounterTest}
 use Rattle.state.specs.declared.layout.Target.{Target}
 use Rattle.state.proofs.ListLaws.{First}
 use Rattle.state.proofs.SoundLaws.{Sound, facts-sound}
 use Rattle.portals.specs.Refusals.{goodArguments, unlessRefused}
 use Rattle.portals.specs.Admission.{byAdmission, isAdmitted, Admits}
-use Rattle.portals.specs.Answers.{Answer, MADE, DONE, COUNTER, REGISTER, refused, newAnswer}
+use Rattle.portals.specs.Answers.{Answer, MADE, DONE, COUNTER, REGISTER, READY, NOT-READY, refused, newAnswer}
 use Rattle.portals.specs.Outcome.{Outcome, guarded}
 use Rattle.portals.specs.Making.{badSetting, notMade, new}
 use Rattle.portals.specs.EventRead.{oldestOf, eventTaken, readEvent}
-use Rattle.portals.specs.CounterCalls.{badCounterArgument, counterTests, counterDone, setCounter, increment, readCounter, badRegisterArgument, readRegister}
+use Rattle.portals.specs.CounterCalls.{badCounterArgument, counterTests, counterDone, setCounter, increment, readCounter, badRegisterArgument, readRegister, isReady, ready, badPollArgument, reachedFrom, reachedAnswer, poll}
 use Rattle.portals.specs.EarlyMessages.{unlinkTests, unlinked, unlink, EntriesUnlinked}
 use Rattle.portals.specs.Promises.{Met, ReadMet, NewMet}
 use Rattle.portals.specs.declared.answers.NewDone.{NewDone}
@@ -109,30 +110,53 @@ module _ (t : Target) (counters : Counters) (answer : Answer) (x : CounterChange
 
 -- ## The calls that only read
 
-module _ (t : Target) (answer : Answer) (k : ℕ) (found : BadArgument) (a : Admission) (admits : Admits (λ v. goodArguments found ∷ []) t a) where
-  pub read-counter-met : (c : Counter)
+module _ (t : Target) (answer : Answer) (found : BadArgument) (a : Admission) (admits : Admits (λ v. goodArguments found ∷ []) t a) where
+  pub read-counter-met : (k : ℕ) (c : Counter)
       → found ≡ badCounterArgument k
       → c ≡ counterAt (t .counters .slots) k
       → answer ≡ byAdmission refused (COUNTER (c .success) (c .failure)) a
       → ReadMet (λ v. readCounter v k) t answer
   unfolding readCounter
-  read-counter-met c is-bad is e =
+  read-counter-met k c is-bad is e =
       read-met (λ v. readCounter v k) (λ v. COUNTER (counterAt (v .counters) k .success) (counterAt (v .counters) k .failure))
       (λ v. counterTests k) (λ v. refl) t answer a
       (admits-for found (badCounterArgument k) t a is-bad admits)
       (e ∙ ap (λ (n : Counter). byAdmission refused (COUNTER (n .success) (n .failure)) a) is)
 
-  pub read-register-met : (value : ℕ)
+  pub read-register-met : (k value : ℕ)
       → found ≡ badRegisterArgument k
       → value ≡ registerAt (t .registers) k
       → answer ≡ byAdmission refused (REGISTER value) a
       → ReadMet (λ v. readRegister v k) t answer
   unfolding readRegister
-  read-register-met value is-bad is e =
+  read-register-met k value is-bad is e =
       read-met (λ v. readRegister v k) (λ v. REGISTER (registerAt (v .registers) k))
       (λ v. goodArguments (badRegisterArgument k) ∷ []) (λ v. refl) t answer a
       (admits-for found (badRegisterArgument k) t a is-bad admits)
       (e ∙ ap (λ (n : ℕ). byAdmission refused (REGISTER n) a) is)
+
+  pub ready-met : (x : CounterTest) (passed : Bool)
+      → found ≡ badCounterArgument (x .counter)
+      → passed ≡ isReady (counterAt (t .counters .slots) (x .counter)) (x .test)
+      → answer ≡ byAdmission refused (cond passed READY NOT-READY) a
+      → ReadMet (λ v. ready v x) t answer
+  unfolding ready
+  ready-met x passed is-bad is e =
+      read-met (λ v. ready v x) (λ v. cond (isReady (counterAt (v .counters) (x .counter)) (x .test)) READY NOT-READY)
+      (λ v. counterTests (x .counter)) (λ v. refl) t answer a
+      (admits-for found (badCounterArgument (x .counter)) t a is-bad admits)
+      (e ∙ ap (λ (b : Bool). byAdmission refused (cond b READY NOT-READY) a) is)
+
+  pub poll-met : (ks tests : List ℕ)
+      → found ≡ badPollArgument ks tests
+      → answer ≡ byAdmission refused (reachedAnswer (reachedFrom (t .counters .slots) 0 ks tests)) a
+      → ReadMet (λ v. poll v ks tests) t answer
+  unfolding poll
+  poll-met ks tests is-bad e =
+      read-met (λ v. poll v ks tests) (λ v. reachedAnswer (reachedFrom (v .counters) 0 ks tests))
+      (λ v. goodArguments (badPollArgument ks tests) ∷ []) (λ v. refl) t answer a
+      (admits-for found (badPollArgument ks tests) t a is-bad admits)
+      e
 
 -- ## The event queue
 

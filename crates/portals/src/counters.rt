@@ -1,19 +1,22 @@
-// Document 01, "Events", its last paragraph: the calls that set, increment and read a counting event.
+// Document 01, "Events", its last paragraph: the calls that set, increment, read and test a counting event.
 use crate::admission;
 use crate::admission::Admission;
 use crate::answers::CounterAnswer;
 use crate::answers::PlainDone;
+use crate::answers::ReadyAnswer;
 use matching::refusals::BadArgument;
 use state::counters;
 use state::layout::Counter;
 use state::layout::CounterChange;
+use state::layout::CounterTest;
 use state::layout::Target;
 use state::sizes;
 ghost use mathlib.Core.Path.{_≡_};
+ghost use mathlib.Core.Bool.{cond};
 ghost use Rattle.portals.specs.Admission.{byAdmission};
-ghost use Rattle.portals.specs.Answers.{COUNTER, refused, counterAnswer};
-ghost use Rattle.portals.specs.CounterCalls.{badCounterArgument};
-ghost use Rattle.portals.specs.Promises.{SetCounterMet, IncrementMet, ReadCounterMet};
+ghost use Rattle.portals.specs.Answers.{COUNTER, READY, NOT-READY, refused, counterAnswer, readyAnswer};
+ghost use Rattle.portals.specs.CounterCalls.{badCounterArgument, isReady};
+ghost use Rattle.portals.specs.Promises.{SetCounterMet, IncrementMet, ReadCounterMet, ReadyMet};
 
 // The first bad argument of a call on a counter.
 fn bad_counter_argument(k: u64) -> BadArgument
@@ -29,6 +32,27 @@ fn answer_counter(a: Admission, c: Counter) -> CounterAnswer
     match a {
         Admission::Admitted => CounterAnswer::Value(c),
         Admission::Refused(refusal) => CounterAnswer::Refused(refusal),
+    }
+}
+
+// "Ready: success at least the test, or failure not 0."
+fn is_ready(c: Counter, test: u64) -> bool
+    ensures { λ r. ⌜ r ≡ isReady c test ⌝ }
+{
+    (test <= c.success) | (c.failure != 0)
+}
+
+// What the test of a counter answers.
+fn answer_ready(a: Admission, passed: bool) -> ReadyAnswer
+    ensures { λ r. ⌜ readyAnswer r ≡ byAdmission refused (cond passed READY NOT-READY) a ⌝ }
+{
+    match a {
+        Admission::Admitted => if passed {
+            ReadyAnswer::Ready
+        } else {
+            ReadyAnswer::NotReady
+        },
+        Admission::Refused(refusal) => ReadyAnswer::Refused(refusal),
     }
 }
 
@@ -76,4 +100,15 @@ pub fn read_counter(t: Target, k: u64) -> CounterAnswer
     let a = admission::admit(t, bad);
     let c = counters::counter_at(t.counters, k);
     answer_counter(a, c)
+}
+
+// Tests a counter: whether it is ready.
+pub fn ready(t: Target, x: CounterTest) -> ReadyAnswer
+    ensures { λ r. ⌜ ReadyMet t x r ⌝ }
+{
+    let bad = bad_counter_argument(x.counter);
+    let a = admission::admit(t, bad);
+    let c = counters::counter_at(t.counters, x.counter);
+    let passed = is_ready(c, x.test);
+    answer_ready(a, passed)
 }

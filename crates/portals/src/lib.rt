@@ -7,6 +7,7 @@ pub mod counters;
 pub mod events;
 pub mod laws;
 pub mod making;
+pub mod poll;
 pub mod put_get;
 pub mod registers;
 pub mod search;

@@ -21,7 +21,7 @@ returns c =
     let m = o .before in
     let b = m .before in
     let a = b .before .args in
-    read-counter-met (a .t) _ (a .k) (b .bad-counter-argument .result) (m .admit .result) (m .admit .ensures) (o .counter-at .result)
+    read-counter-met (a .t) _ (b .bad-counter-argument .result) (m .admit .result) (m .admit .ensures) (a .k) (o .counter-at .result)
     (b .bad-counter-argument .ensures) (o .counter-at .ensures) (c .answer-counter .ensures)
 
 pub read-counter-spec : {M : Type 1} → statement M

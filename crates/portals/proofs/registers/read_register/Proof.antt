@@ -21,7 +21,7 @@ returns c =
     let m = o .before in
     let b = m .before in
     let a = b .before .args in
-    read-register-met (a .t) _ (a .k) (b .bad-unless .result) (m .admit .result) (m .admit .ensures) (o .register-at .result)
+    read-register-met (a .t) _ (b .bad-unless .result) (m .admit .result) (m .admit .ensures) (a .k) (o .register-at .result)
     (b .bad-unless .ensures) (o .register-at .ensures) (c .answer-register .ensures)
 
 pub read-register-spec : {M : Type 1} → statement M
