@@ -9,3 +9,4 @@ pub mod PollLaws
 pub mod EarlyMet
 pub mod CasesHold
 pub mod RequestMet
+pub mod Promised

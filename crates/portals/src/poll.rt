@@ -32,7 +32,8 @@ fn all_counters(ks: &[u64]) -> bool
     true
 }
 
-// The first bad argument of a poll: every counter is tested, whatever is reached before it, then "of equal length (else ARG_INVALID)".
+// The first bad argument of a poll, over lists "of equal length (else ARG_INVALID)". Every counter is tested, whatever is reached
+// before it.
 fn bad_poll_argument(ks: &[u64], tests: &[u64]) -> BadArgument
     ensures { λ r. ⌜ r ≡ badPollArgument (now (ks .entry)) (now (tests .entry)) ⌝ }
 {
