@@ -1,0 +1,13 @@
+pub mod Relations
+pub mod NumberLaws
+pub mod EntryLaws
+pub mod EventLaws
+pub mod SlotLaws
+pub mod MessageLaws
+pub mod StepLaws
+pub mod CounterSteps
+pub mod EarlySteps
+pub mod RequestSteps
+pub mod ByteLaws
+pub mod StayLaws
+pub mod EveryList

@@ -1,0 +1,88 @@
+-- What holds between the ledger, the view of a target and the memory beside it, and what each step has to show.
+use mathlib.Core.Path.{_≡_}
+use mathlib.Core.Bool.{true, cond}
+use mathlib.Core.List.{List, _++_}
+use Prim.Native.Nat.{ℕ, _+_}
+use lib.Dec.{ltb}
+use lib.ListN.{length, take}
+use Rattle.matching.specs.Request.{accepted, place}
+use Rattle.state.specs.Lists.{every, select, overwritten}
+use Rattle.state.specs.View.{View, EventQueue, isLinked}
+use Rattle.state.specs.Soundness.{soundView, seen, sound}
+use Rattle.state.specs.Registers.{registerAt}
+use Rattle.state.specs.declared.layout.HeldEntry.{HeldEntry}
+use Rattle.state.specs.declared.layout.Event.{Event}
+use Rattle.state.specs.declared.layout.Target.{Target}
+use Rattle.portals.specs.Answers.{LINKED}
+use Rattle.conservation.specs.Steps.{Step, called, elsewhere, wrote, count, eventsRead}
+use Rattle.conservation.specs.Ledger.{Message, EventLog, Ledger, Effect, nothing, delivery, link, taken, remove, look, delete, callEffect, hear, messageAt, headersAt, queuedOf}
+use Rattle.conservation.specs.Runs.{Line}
+use Rattle.conservation.specs.Answering.{registerOf}
+use Rattle.conservation.specs.Conserved.{All, Right, times, ascends}
+
+-- ## The parts
+
+-- an entry of the target that has the handle of the message's entry is that entry, linked or retired; only its local offset may differ
+pub record Home (entries : List HeldEntry) (x : Message) : Type 0 where
+  pub named : x .header .handle ≡ x .entry .handle
+  pub same : All (λ (y : HeldEntry). y .handle ≡ x .entry .handle → y .entry ≡ x .entry .entry) entries
+
+-- the numbers of the arrivals, of which there are `total`
+pub record Numbers (waiting handed : List ℕ) (total : ℕ) : Type 0 where
+  pub below : every (λ n. ltb n total) waiting ≡ true
+  pub ascending : ascends 0 waiting ≡ true
+  pub sum : total ≡ length waiting + length handed
+  pub once : (n : ℕ) → times n waiting + times n handed ≡ cond (ltb n total) 1 0
+
+-- the events read, the queue, and what the ledger logs of events
+pub record Logs (reads : List Event) (q : EventQueue) (s : EventLog) : Type 0 where
+  pub events : reads ++ q .events ≡ queuedOf (s .logged)
+  pub mark : q .lost ≡ s .mark
+
+-- ## The whole
+
+pub record Related (b : Ledger) (v : View) (m : List ℕ) : Type 0 where
+  pub isSound : soundView v ≡ true
+  pub memory : length m ≡ v .size
+  pub linked : select isLinked (v .entries) ≡ b .linked
+  pub headers : v .headers ≡ headersAt b (b .waiting)
+  pub homes : All (λ n. Home (v .entries) (messageAt (b .arrivals) n)) (b .waiting)
+  pub numbers : Numbers (b .waiting) (b .handed) (length (b .arrivals))
+  pub events : Logs (eventsRead (b .heard)) (v .queue) (b .events)
+  pub last : v .last ≡ count (LINKED 0) (b .heard)
+  pub registers : (k : ℕ) → registerAt (v .registers) k ≡ registerOf (b .heard) k
+
+-- ## A step
+
+-- the memory after a step: rule 5's bytes of a put, where it was delivered; a get has no payload
+abbrev pub memoryBy : List ℕ → Effect → List ℕ
+memoryBy m nothing = m
+memoryBy m (delivery portal a payload x) =
+    overwritten m (place (x .entry) (x .local) a) (take (accepted (x .entry) (x .local) a) payload)
+memoryBy m (link e handle) = m
+memoryBy m (taken e) = m
+memoryBy m (remove handle) = m
+memoryBy m (look e) = m
+memoryBy m (delete e) = m
+
+abbrev pub Leaves : Ledger → List ℕ → Step → List ℕ → Type 0
+Leaves b m (called c answer) m′ = m′ ≡ memoryBy m (callEffect (b .linked) c answer)
+Leaves b m (elsewhere c n answer) m′ = m′ ≡ m
+Leaves b m (wrote before after) m′ = (before ≡ m) × (after ≡ m′)
+
+pub record Follows (b : Ledger) (m : List ℕ) (l : Line) (v′ : View) (m′ : List ℕ) : Type 0 where
+  pub related : Related (hear b (l .step)) v′ m′
+  pub right : Right b l
+  pub memory : Leaves b m (l .step) m′
+
+-- ## On a target
+
+pub record At (b : Ledger) (t : Target) (m : List ℕ) : Type 0 where
+  pub view : View
+  pub is : seen t ≡ sound view
+  pub related : Related b view m
+
+pub record Reaches (b : Ledger) (m : List ℕ) (l : Line) (t′ : Target) (m′ : List ℕ) : Type 0 where
+  pub view : View
+  pub is : seen t′ ≡ sound view
+  pub follows : Follows b m l view m′

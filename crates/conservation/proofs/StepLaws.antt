@@ -1,0 +1,143 @@
+-- What a step has to show, part by part, and what follows from it.
+use mathlib.Core.Path.{_≡_, refl, ap, sym, _∙_, subst}
+use mathlib.Core.Bool.{true, false, cond}
+use mathlib.Core.List.{List, [], _∷_, _++_, append-nil}
+use Prim.Native.Nat.{ℕ, _+_, _%_, _^_}
+use native.Mathlib.Nat.{add-zero}
+use lib.Dec.{eqb}
+use lib.ListN.{length}
+use Rattle.matching.specs.declared.refusals.Refusal.{Refusal}
+use Rattle.state.specs.Lists.{any, select}
+use Rattle.state.specs.View.{View, EventQueue, isLinked}
+use Rattle.state.specs.Registers.{registerAt}
+use Rattle.state.proofs.ListLaws.{cond-cases, neither}
+use Rattle.portals.specs.Answers.{Answer, LINKED, DROPPED, PERM, OP, refused}
+use Rattle.portals.specs.Calls.{Call, stateAfter, answerTo}
+use Rattle.portals.specs.Calls as calls
+use Rattle.portals.proofs.CallLaws.{call-laws}
+use Rattle.conservation.specs.Steps.{called, says, count, eventIn, eventsRead}
+use Rattle.conservation.specs.Ledger.{Ledger, Effect, EventLog, nothing, callEffect, linkedAfter, arrivalsOf, waitingAfter, handOuts, issuedBy, logAll, effectHeard}
+use Rattle.conservation.specs.Runs.{line}
+use Rattle.conservation.specs.Answering.{AnswerRight, countedIn, registerOf}
+use Rattle.conservation.proofs.Relations.{Logs, Related, memoryBy, Follows}
+use Rattle.conservation.proofs.NumberLaws.{none-found}
+use Rattle.conservation.proofs.EventLaws.{reads-more, count-more, overflow-shown}
+use Rattle.conservation.proofs.MessageLaws.{Messages, messages-parted}
+
+-- ## One answer more
+
+-- an answer that no register counts
+abbrev pub Unregistered : Answer → Type 0
+Unregistered a = any (says a) (DROPPED 0 ∷ PERM 0 ∷ OP 0 ∷ []) ≡ false
+
+-- and that reads no event and gives no handle
+pub record Plain (a : Answer) : Type 0 where
+  pub event : eventIn a ≡ []
+  pub handle : says a (LINKED 0) ≡ false
+  pub unregistered : Unregistered a
+
+pub same-count : (b : Answer) (heard : List Answer) (a : Answer) → says a b ≡ false → count b (heard ++ (a ∷ [])) ≡ count b heard
+same-count b heard a e = count-more b heard a ∙ rw e (add-zero (count b heard))
+
+pub one-more : (b : Answer) (heard : List Answer) (a : Answer) → says a b ≡ true → count b (heard ++ (a ∷ [])) ≡ count b heard + 1
+one-more b heard a e = count-more b heard a ∙ rw e refl
+
+pub same-reads : (heard : List Answer) (a : Answer) → eventIn a ≡ [] → eventsRead (heard ++ (a ∷ [])) ≡ eventsRead heard
+same-reads heard a e = reads-more heard a ∙ rw e (append-nil (eventsRead heard))
+
+pub same-register : (heard : List Answer) (a : Answer) → Unregistered a → (k : ℕ) → registerOf (heard ++ (a ∷ [])) k ≡ registerOf heard k
+same-register heard a u k =
+    let dropped = neither (says a (DROPPED 0)) (any (says a) (PERM 0 ∷ OP 0 ∷ [])) u in
+    let permission = neither (says a (PERM 0)) (any (says a) (OP 0 ∷ [])) (dropped .1) in
+    let operation = neither (says a (OP 0)) false (permission .1) in
+    ap (λ n. n % 2 ^ 64) (same-count (countedIn k) heard a
+    (cond-cases (λ b. says a b ≡ false) (eqb k 0) (DROPPED 0) (cond (eqb k 1) (PERM 0) (OP 0))
+    (λ e. dropped .0)
+    (λ e. cond-cases (λ b. says a b ≡ false) (eqb k 1) (PERM 0) (OP 0) (λ f. permission .0) (λ f. operation .0))))
+
+-- ## A step
+
+-- what a call with its answer leaves, against what the ledger makes of them as a effect
+pub record Kept (b : Ledger) (m : List ℕ) (c : Call) (a : Answer) (v′ : View) (m′ : List ℕ) : Type 0 where
+  pub d : Effect
+  pub effect : callEffect (b .linked) c a ≡ d
+  pub linked : select isLinked (v′ .entries) ≡ linkedAfter (b .linked) d
+  pub messages : Messages (b .arrivals ++ arrivalsOf d) (waitingAfter b d) (b .handed ++ handOuts b d) (v′ .entries) (v′ .headers)
+  pub events : Logs (eventsRead (b .heard ++ (a ∷ []))) (v′ .queue) (logAll (length (eventsRead (b .heard))) (b .events) (issuedBy b d))
+  pub last : v′ .last ≡ count (LINKED 0) (b .heard ++ (a ∷ []))
+  pub registers : (k : ℕ) → registerAt (v′ .registers) k ≡ registerOf (b .heard ++ (a ∷ [])) k
+  pub memory : m′ ≡ memoryBy m d
+
+module _ (b : Ledger) (v : View) (m : List ℕ) (r : Related b v m) where
+  -- the state is sound and the memory has its size, by the laws of all calls
+  pub kept-follows : (c : Call) (m′ : List ℕ) → length m′ ≡ length m
+      → AnswerRight (length m) b (called c (answerTo v m c))
+      → Kept b m c (answerTo v m c) (stateAfter v m c) m′
+      → Follows b m (line m c (answerTo v m c)) (stateAfter v m c) m′
+  kept-follows c m′ size answer k = record {
+    related = subst (λ e. Related (effectHeard b e (answerTo v m c ∷ [])) (stateAfter v m c) m′) (sym (k .effect)) (record {
+      isSound = call-laws .sound v m c (r .isSound);
+      memory = size ∙ r .memory ∙ sym (call-laws .fixed v m c);
+      linked = k .linked;
+      headers = k .messages .headers;
+      homes = k .messages .homes;
+      numbers = k .messages .numbers;
+      events = k .events;
+      last = k .last;
+      registers = k .registers;
+    });
+    right = record { answer = answer; overflow = overflow-shown b (callEffect (b .linked) c (answerTo v m c)) };
+    memory = k .memory ∙ ap (memoryBy m) (sym (k .effect));
+  }
+
+  pub messages : Messages (b .arrivals) (b .waiting) (b .handed) (v .entries) (v .headers)
+  messages = record { headers = r .headers; homes = r .homes; numbers = r .numbers }
+
+  -- nothing is handed out, nothing arrives
+  pub same-messages : Messages (b .arrivals ++ []) (b .waiting) (b .handed ++ []) (v .entries) (v .headers)
+  same-messages = messages-parted messages (v .entries) (v .headers) (none-found (b .waiting)) (r .homes) (r .headers)
+
+  -- no event is read, and some are issued
+  pub same-read : (a : Answer) (q : EventQueue) (s : EventLog) → eventIn a ≡ [] → Logs (eventsRead (b .heard)) q s
+      → Logs (eventsRead (b .heard ++ (a ∷ []))) q s
+  same-read a q s e t = subst (λ reads. Logs reads q s) (sym (same-reads (b .heard) a e)) t
+
+  -- a plain answer, which changes no more than the counters
+  pub plain-kept : (c : Call) (a : Answer) (v′ : View) → Plain a
+      → callEffect (b .linked) c a ≡ nothing
+      → v′ .entries ≡ v .entries
+      → v′ .headers ≡ v .headers
+      → v′ .queue ≡ v .queue
+      → v′ .last ≡ v .last
+      → v′ .registers ≡ v .registers
+      → Kept b m c a v′ m
+  plain-kept c a v′ p d entries headers queue last registers = record {
+    d = nothing;
+    effect = d;
+    linked = ap (select isLinked) entries ∙ r .linked;
+    messages = rw (entries, headers) same-messages;
+    events = rw queue (same-read a (v .queue) (b .events) (p .event) (r .events));
+    last = last ∙ r .last ∙ sym (same-count (LINKED 0) (b .heard) a (p .handle));
+    registers = λ k. ap (λ rs. registerAt rs k) registers ∙ r .registers k ∙ sym (same-register (b .heard) a (p .unregistered) k);
+    memory = refl;
+  }
+
+  refused-effect : (c : Call) (why : Refusal) → callEffect (b .linked) c (refused why) ≡ nothing
+  refused-effect (calls.append e) why = refl
+  refused-effect (calls.unlink handle) why = refl
+  refused-effect (calls.search e) why = refl
+  refused-effect (calls.put q payload) why = refl
+  refused-effect (calls.get q reply) why = refl
+  refused-effect calls.readEvent why = refl
+  refused-effect (calls.setCounter x) why = refl
+  refused-effect (calls.increment x) why = refl
+  refused-effect (calls.readCounter k) why = refl
+  refused-effect (calls.readRegister k) why = refl
+  refused-effect (calls.ready x) why = refl
+  refused-effect (calls.poll ks tests) why = refl
+
+  -- a refusal
+  pub refused-kept : (c : Call) (why : Refusal) → Kept b m c (refused why) v m
+  refused-kept c why =
+      plain-kept c (refused why) v (record { event = refl; handle = refl; unregistered = refl })
+      (refused-effect c why) refl refl refl refl refl

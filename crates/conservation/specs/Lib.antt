@@ -1,0 +1,6 @@
+pub mod Steps
+pub mod Ledger
+pub mod Runs
+pub mod Answering
+pub mod Bytes
+pub mod Conserved
