@@ -167,7 +167,7 @@ runs-on b t t′ m m′ log h (runs.next {t′ = next} {m′ = left} {l = l} {ls
 
 -- ## From a new target
 
-seen-is : (t : Target) (v : View) → seen t ≡ sound v → (isSound t ≡ true) × (viewOf t ≡ v)
+pub seen-is : (t : Target) (v : View) → seen t ≡ sound v → (isSound t ≡ true) × (viewOf t ≡ v)
 unfolding seen
 seen-is t v e = go (isSound t) refl e
   where

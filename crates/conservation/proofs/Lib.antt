@@ -11,3 +11,4 @@ pub mod RequestSteps
 pub mod ByteLaws
 pub mod StayLaws
 pub mod EveryList
+pub mod ExampleLaws

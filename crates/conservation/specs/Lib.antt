@@ -4,3 +4,4 @@ pub mod Runs
 pub mod Answering
 pub mod Bytes
 pub mod Conserved
+pub mod Example
