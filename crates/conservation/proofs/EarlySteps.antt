@@ -35,13 +35,13 @@ use Rattle.portals.proofs.GuardLaws.{guard-cases, unless-map}
 use Rattle.conservation.specs.Steps.{called, count, eventIn, eventsRead}
 use Rattle.conservation.specs.Ledger.{Ledger, link, taken, remove, look, delete, without, headerAt, messageAt, searchWalk, appendWalk, walkEvents, logAll, headersAt}
 use Rattle.conservation.specs.Answering.{slotsTaken, expectedOfAppend, AnswerRight}
-use Rattle.conservation.specs.Conserved.{All}
 use Rattle.conservation.proofs.Relations.{Home, Logs, Related}
-use Rattle.conservation.proofs.NumberLaws.{Parted, none-found, walk-parted, walk-map, parted-left, parted-found, part-of-all}
+use Rattle.conservation.proofs.AllLaws.{all-part, all-imply, all-both}
+use Rattle.conservation.proofs.NumberLaws.{Parted, none-found, walk-parted, walk-map, parted-left, parted-found}
 use Rattle.conservation.proofs.SlotLaws.{slots-taken}
 use Rattle.conservation.proofs.EntryLaws.{kept-linked, linked-last, unlinked-linked, home-part, home-last}
 use Rattle.conservation.proofs.EventLaws.{logged-all, overflow-events, no-match-events, search-events}
-use Rattle.conservation.proofs.MessageLaws.{Messages, Homes, messages-parted, handles-given, all-imply}
+use Rattle.conservation.proofs.MessageLaws.{Messages, Homes, messages-parted, handles-given}
 use Rattle.conservation.proofs.StepLaws.{Kept, same-count, one-more, same-register, messages, same-messages, same-read, refused-kept}
 
 part-map : {A B : Type 0} (f : A → B) {l all : List A} → Part l all → Part (map f l) (map f all)
@@ -52,10 +52,6 @@ part-map f (leaves p) = leaves (part-map f p)
 empty-map : {A B : Type 0} (f : A → B) (l : List A) → isEmpty (map f l) ≡ isEmpty l
 empty-map f [] = refl
 empty-map f (x ∷ l) = refl
-
-all-both : {A : Type 0} (P Q R : A → Type 0) (l : List A) → ((x : A) → P x → Q x → R x) → All P l → All Q l → All R l
-all-both P Q R [] f p q = tt
-all-both P Q R (x ∷ l) f p q = (f x (p .0) (q .0), all-both P Q R l f (p .1) (q .1))
 
 module _ (b : Ledger) (v : View) (m : List ℕ) (r : Related b v m) where
   -- ## Unlink
@@ -143,7 +139,7 @@ module _ (b : Ledger) (v : View) (m : List ℕ) (r : Related b v m) where
     homes-left =
         all-imply (λ n. Home (v .entries) (messageAt (b .arrivals) n)) (λ n. Home slots (messageAt (b .arrivals) n)) (w .left)
         (λ n h. home-part (part-select (keepsSlot (headersAt b (w .left))) (v .entries)) h)
-        (part-of-all (λ n. Home (v .entries) (messageAt (b .arrivals) n)) (parted-left p) (r .homes))
+        (all-part (λ n. Home (v .entries) (messageAt (b .arrivals) n)) (parted-left p) (r .homes))
 
     messages-left : Messages (b .arrivals ++ []) (w .left) (b .handed ++ w .found) slots (headersAt b (w .left))
     messages-left = messages-parted (messages b v m r) slots (headersAt b (w .left)) p homes-left refl
@@ -156,7 +152,7 @@ module _ (b : Ledger) (v : View) (m : List ℕ) (r : Related b v m) where
         (λ n. Home (slots ++ (newEntry e handle ∷ [])) (messageAt (b .arrivals) n)) (w .left)
         (λ n h given. home-last slots (messageAt (b .arrivals) n) e handle (omega arith) h)
         homes-left
-        (part-of-all (λ n. messageAt (b .arrivals) n .entry .handle ≤ v .last) (parted-left p)
+        (all-part (λ n. messageAt (b .arrivals) n .entry .handle ≤ v .last) (parted-left p)
         (handles-given (messages b v m r) (v .size) (v .last) (sound-facts v (r .isSound) .entries) (sound-facts v (r .isSound) .headers))))
         refl
 
@@ -164,7 +160,7 @@ module _ (b : Ledger) (v : View) (m : List ℕ) (r : Related b v m) where
     handed-events : (owner : ℕ) → HandOut.handOutEvents e owner (v .entries) (headersAt b (w .left)) (headersAt b (w .found)) ≡ walkEvents b e owner w
     handed-events owner =
         overflow-events b (v .entries) e owner (w .found) (w .left) (sound-facts v (r .isSound) .handles) (r .linked)
-        (part-of-all (λ n. Home (v .entries) (messageAt (b .arrivals) n)) (parted-found p) (r .homes))
+        (all-part (λ n. Home (v .entries) (messageAt (b .arrivals) n)) (parted-found p) (r .homes))
         (part-every (headerSound (v .entries)) (part-map (headerAt (b .arrivals)) (parted-found p))
         (subst (λ hs. every (headerSound (v .entries)) hs ≡ true) (r .headers) (sound-facts v (r .isSound) .headers)))
 

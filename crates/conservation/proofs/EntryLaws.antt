@@ -18,7 +18,6 @@ use Rattle.state.specs.Soundness.{distinct, entrySound, waitsIn, holds, bytesIn
 use Rattle.state.specs.declared.layout.HeldEntry.{HeldEntry}
 use Rattle.state.specs.declared.layout.Header.{Header}
 use Rattle.state.proofs.ListLaws.{both, neither, or-left, or-other, cond-cases, cond-map, Part, part-removeAt, part-select, part-none, any-at, Found}
-use Rattle.state.proofs.ListLaws as lists
 use Rattle.state.proofs.SoundLaws.{entry-facts}
 use Rattle.requests.specs.Choice.{isIn, isCandidate, choose}
 use Rattle.requests.specs.Choice as choices
@@ -29,6 +28,7 @@ use Rattle.requests.specs.declared.choice.Choice.the-variants as Choice
 use Rattle.early.specs.Handling.{newEntry}
 use Rattle.conservation.specs.Ledger.{Message, firstOf, otherwise, chosen, withLocal, moved, without, linkedAfter, delivery, messageOf}
 use Rattle.conservation.specs.Conserved.{All}
+use Rattle.conservation.proofs.AllLaws.{all-part, all-last, all-set, all-at}
 use Rattle.conservation.proofs.Relations.{Home}
 
 -- ## A test that implies another
@@ -253,28 +253,6 @@ pub delivered-linked : (entries : List HeldEntry) (portal : ℕ) (a : Arrival) (
 delivered-linked entries portal a payload k d inside linked =
     let x = entryAt entries k in
     delivered-by entries k d inside linked (localAfter (x .entry) (x .local) a) (unlinks (x .entry) (x .local) a) (takesHeaders (x .entry))
-
--- ## What holds of all elements
-
-module _ {A : Type 0} (P : A → Type 0) where
-  all-part : {l m : List A} → Part l m → All P m → All P l
-  all-part lists.nothing h = tt
-  all-part (lists.keeps s) h = (h .0, all-part s (h .1))
-  all-part (lists.leaves s) h = all-part s (h .1)
-
-  all-last : (l : List A) (x : A) → All P l → P x → All P (l ++ (x ∷ []))
-  all-last [] x h e = (e, tt)
-  all-last (y ∷ l) x h e = (h .0, all-last l x (h .1) e)
-
-  all-set : (l : List A) (k : ℕ) (x : A) → All P l → P x → All P (set l k x)
-  all-set [] k x h e = tt
-  all-set (y ∷ l) zero x h e = (e, h .1)
-  all-set (y ∷ l) (suc k) x h e = (h .0, all-set l k x (h .1) e)
-
-  all-at : (l : List A) (k : ℕ) (d : A) → k < length l → All P l → P (getD l k d)
-  all-at [] k d h e = absurd (omega arith)
-  all-at (y ∷ l) zero d h e = e .0
-  all-at (y ∷ l) (suc k) d h e = all-at l k d (omega arith) (e .1)
 
 -- ## Homes
 

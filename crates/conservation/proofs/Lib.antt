@@ -1,4 +1,5 @@
 pub mod Relations
+pub mod AllLaws
 pub mod NumberLaws
 pub mod EntryLaws
 pub mod EventLaws

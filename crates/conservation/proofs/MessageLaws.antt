@@ -16,6 +16,7 @@ use Rattle.conservation.specs.Ledger.{Message, messageAt, headerAt}
 use Rattle.conservation.specs.Conserved.{All}
 use Rattle.conservation.proofs.Relations.{Home, Numbers}
 use Rattle.conservation.proofs.NumberLaws.{Parted, parted-left, numbers-parted, numbers-arrive}
+use Rattle.conservation.proofs.AllLaws.{all-last}
 use Rattle.conservation.proofs.EntryLaws.{home-given}
 
 message-stays : (arrivals more : List Message) (n : ℕ) → n < length arrivals → messageAt (arrivals ++ more) n ≡ messageAt arrivals n
@@ -47,14 +48,6 @@ module _ (arrivals more : List Message) where
   all-stay P (n ∷ ns) b h =
       let s = both (ltb n (length arrivals)) (every (λ k. ltb k (length arrivals)) ns) b in
       (rw (message-stays arrivals more n (ltb-true n (length arrivals) (s .0))) (h .0), all-stay P ns (s .1) (h .1))
-
-pub all-last : {A : Type 0} (P : A → Type 0) (l : List A) (x : A) → All P l → P x → All P (l ++ (x ∷ []))
-all-last P [] x h p = (p, tt)
-all-last P (y ∷ l) x h p = (h .0, all-last P l x (h .1) p)
-
-pub all-imply : {A : Type 0} (P Q : A → Type 0) (l : List A) → ((x : A) → P x → Q x) → All P l → All Q l
-all-imply P Q [] f h = tt
-all-imply P Q (x ∷ l) f h = (f x (h .0), all-imply P Q l f (h .1))
 
 map-last : {A B : Type 0} (f : A → B) (l : List A) (x : A) → map f (l ++ (x ∷ [])) ≡ map f l ++ (f x ∷ [])
 map-last f [] x = refl

@@ -11,7 +11,7 @@ use lib.ListN.{length, length-append}
 use Rattle.state.specs.Lists.{every, select, selectNot, firstOnly, withoutFirst}
 use Rattle.state.proofs.ListLaws.{Part, nothing, keeps, leaves, part-every, both, joined, cond-map, every-join, every-imply}
 use Rattle.early.specs.Walk.{walk}
-use Rattle.conservation.specs.Conserved.{All, times, ascends}
+use Rattle.conservation.specs.Conserved.{times, ascends}
 use Rattle.conservation.proofs.Relations.{Numbers}
 
 -- ## What a walk parts
@@ -59,11 +59,6 @@ module _ {A : Type 0} where
   parted-found none = nothing
   parted-found (found p) = keeps (parted-found p)
   parted-found (left p) = leaves (parted-found p)
-
-  pub part-of-all : (P : A → Type 0) {l all : List A} → Part l all → All P all → All P l
-  part-of-all P nothing h = tt
-  part-of-all P (keeps k) h = (h .0, part-of-all P k (h .1))
-  part-of-all P (leaves k) h = part-of-all P k (h .1)
 
   parted-length : {f l all : List A} → Parted f l all → length all ≡ length l + length f
   parted-length none = refl

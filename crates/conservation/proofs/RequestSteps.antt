@@ -49,10 +49,11 @@ use Rattle.conservation.specs.Runs.{lineElsewhere}
 use Rattle.conservation.specs.Answering.{answerOf, answerOn, expectedOfRequest, registerOf, AnswerRight}
 use Rattle.conservation.specs.Answering as ledger
 use Rattle.conservation.proofs.Relations.{Home, Related, memoryBy, Follows}
+use Rattle.conservation.proofs.AllLaws.{all-imply}
 use Rattle.conservation.proofs.NumberLaws.{none-found}
 use Rattle.conservation.proofs.EntryLaws.{ChosenAs, priority, overflow, chosen-as, delivered-linked, home-delivered, home-new}
 use Rattle.conservation.proofs.EntryLaws as entries
-use Rattle.conservation.proofs.MessageLaws.{Messages, Homes, messages-parted, messages-arrive, all-imply}
+use Rattle.conservation.proofs.MessageLaws.{Messages, Homes, messages-parted, messages-arrive}
 use Rattle.conservation.proofs.StepLaws.{Kept, same-count, one-more, same-register, messages, same-messages, same-read, refused-kept}
 use Rattle.conservation.proofs.EarlySteps.{issued-logged}
 

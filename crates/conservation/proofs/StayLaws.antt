@@ -39,6 +39,7 @@ use Rattle.conservation.specs.Runs as Runs
 use Rattle.conservation.specs.Answering.{testsOf, expectedOfAppend, AnswerRight}
 use Rattle.conservation.specs.Bytes.{ledgerFrom, ledgerOf, shareByte, apart, RegionKept, Undisturbed, Stay, managesLocal, BytesStand}
 use Rattle.conservation.specs.Conserved.{All}
+use Rattle.conservation.proofs.AllLaws.{all-last}
 use Rattle.conservation.proofs.Relations.{Related, memoryBy, Leaves, Follows, At, Reaches}
 use Rattle.conservation.proofs.ByteLaws.{inside-same, written-there, written-elsewhere, Inside, written-apart}
 
@@ -203,15 +204,10 @@ all-delivered P Q portal a payload y others one l h =
     (λ e. all-without P Q (y .handle) others l h)
     (λ e. all-moved P Q (y .handle) others (localAfter (y .entry) (y .local) a) one l h)
 
--- one more joins the end
-all-join : {A : Type 0} (P : A → Type 0) (l : List A) (x : A) → All P l → P x → All P (l ++ (x ∷ []))
-all-join P [] x h p = (p, tt)
-all-join P (y ∷ l) x h p = (h .0, all-join P l x (h .1) p)
-
 -- the count of answers of a word does not fall
-count-more : (a : Answer) (l r : List Answer) → count a l ≤ count a (l ++ r)
-count-more a [] r = omega arith
-count-more a (x ∷ l) r = let n = count-more a l r in omega arith
+count-grows : (a : Answer) (l r : List Answer) → count a l ≤ count a (l ++ r)
+count-grows a [] r = omega arith
+count-grows a (x ∷ l) r = let n = count-grows a l r in omega arith
 
 -- ## A delivery
 
@@ -289,7 +285,7 @@ module _ (b : Ledger) (v : View) (m : List ℕ) (r : Related b v m) (portal : �
   stands-delivered answers k =
       let f = fitting b v m r i in
       let n : y .handle ≤ count (LINKED 0) (b .heard) = f .given in
-      let c : count (LINKED 0) (b .heard) ≤ count (LINKED 0) (b .heard ++ answers) = count-more (LINKED 0) (b .heard) answers in
+      let c : count (LINKED 0) (b .heard) ≤ count (LINKED 0) (b .heard ++ answers) = count-grows (LINKED 0) (b .heard) answers in
       record {
         bytes = written-there m (place (y .entry) (y .local) a) (sent y a payload) (sent-fits b v m r i a payload);
         inside = sent-inside y a payload;
@@ -412,7 +408,7 @@ module _ (x : Message) (b : Ledger) (v : View) (m : List ℕ) (r : Related b v m
       effect-cases size b answer Kept
       (s .bytes, s .own)
       (λ portal a payload y i. kept-delivered portal a payload y i e)
-      (λ f handle n. (s .bytes, all-join (Own x) (b .linked) (newEntry f handle) (s .own) (λ h. let g = s .given in absurd (omega arith))))
+      (λ f handle n. (s .bytes, all-last (Own x) (b .linked) (newEntry f handle) (s .own) (λ h. let g = s .given in absurd (omega arith))))
       (λ f. (s .bytes, s .own))
       (λ handle. (s .bytes, all-without (Own x) (Own x) handle (λ z n p. p) (b .linked) (s .own)))
       (λ f. (s .bytes, s .own))
@@ -429,7 +425,7 @@ stands-on x b v v′ m m′ l r f e kept-region s = by (l .step) (f .right .answ
     stood : (d : Effect) (answers : List Answer) → BytesStand m′ x → All (Own x) (linkedAfter (b .linked) d) → Stands x (effectHeard b d answers) m′
     stood d answers bytes own =
         let n = s .given in
-        let more = count-more (LINKED 0) (b .heard) answers in
+        let more = count-grows (LINKED 0) (b .heard) answers in
         record { bytes = bytes; inside = s .inside; own = own; managed = s .managed; given = omega arith }
 
     by : (t : Step) → AnswerRight (length (l .memory)) b t → Leaves b m t m′ → RegionKept x t → Stands x (hear b t) m′
