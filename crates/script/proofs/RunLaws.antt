@@ -9,10 +9,13 @@ use Rattle.matching.specs.declared.layout.Request.{Request}
 use Rattle.state.specs.View.{View}
 use Rattle.state.specs.Soundness.{Seen, sound, unsound, seen}
 use Rattle.state.specs.declared.layout.Target.{Target}
-use Rattle.portals.specs.Answers.{Answer}
+use Rattle.portals.specs.Answers.{Answer, requestAnswer}
 use Rattle.portals.specs.Outcome.{Outcome, unlessUnsound, readUnlessUnsound}
 use Rattle.portals.specs.Request as request
 use Rattle.portals.specs.Calls.{Call, put, get}
+use Rattle.portals.specs.Promises.{Met, ReadMet, PutMet, GetMet}
+use Rattle.portals.specs.declared.answers.RequestDone.{RequestDone}
+use Rattle.conservation.specs.Runs as runs
 use Rattle.text.specs.Text.{bytesOf}
 use Rattle.text.specs.Writing.{Wrote}
 use Rattle.text.proofs.WritingLaws.{and-then, shorter, text-of}
@@ -28,7 +31,7 @@ use Rattle.reader.proofs.JudgingLaws.{good-put, good-get}
 use Rattle.printer.specs.Said.{SAID, said, shownOf}
 use Rattle.script.specs.Run.{asked, Called, called}
 use Rattle.script.specs.Printout.{callBy, callAt, lineOf}
-use Rattle.script.specs.Promises.{TEXT, Ran, RanOn, CallRan, LineRan}
+use Rattle.script.specs.Promises.{TEXT, CallRan, RanOn, LineRan}
 use Rattle.script.specs.declared.run.Stepped.{Stepped}
 
 -- ## A call, by the outcome that its promise gives
@@ -48,94 +51,92 @@ showing memory o =
 said-alone : {b b′ : List ℕ} {r : ℕ} (k : ℕ) (a : Answer) → Wrote b 0 (said k a) SAID b′ r → Wrote b 0 (said k a ++ []) TEXT b′ r
 said-alone k a p = text-of (λ (s : List ℕ). s) (said k a ++ []) (said k a) (append-nil (said k a)) (omega arith) p
 
--- what a call gave is its outcome, and its outcome is what is said of the call
+-- a step by a call that gave this answer, and showed these bytes behind it
 ran-as :
-    {O : Type 0} (of : O → Called) (c : Called) (given o : O) (k : ℕ) (out : List ℕ) (r : Stepped) (out′ : List ℕ)
-    → of o ≡ c
-    → given ≡ o
-    → Ran (of given) k out r out′
-    → Ran c k out r out′
-ran-as of c given o k out r out′ is e p = subst (λ (z : Called). Ran z k out r out′) (ap of e ∙ is) p
+    (c : Call) (t : Target) (m : List ℕ) (k : ℕ) (out : List ℕ) (r : Stepped) (m′ out′ : List ℕ) (answer : Answer) (shown : List ℕ)
+    → _≡_ {A = Called} (record { answer = answer; shown = shown; state = seen (r .target); memory = m′ }) (called c (seen t) m)
+    → runs.Stepped t m (runs.line m c answer) (r .target) m′
+    → Wrote out 0 (said k answer ++ shown) TEXT out′ (r .length)
+    → CallRan c t m k out r m′ out′
+ran-as c t m k out r m′ out′ answer shown is s w = record {
+  step = subst (λ (z : Called). runs.Stepped t m (runs.line m c (z .answer)) (r .target) m′) is s;
+  state = ap (λ (z : Called). z .state) is;
+  memory = ap (λ (z : Called). z .memory) is;
+  line = subst (λ (z : Called). Wrote out 0 (said k (z .answer) ++ z .shown) TEXT out′ (r .length)) is w;
+}
 
-module _ (c : Call) (k : ℕ) (out : List ℕ) (r : Stepped) (out′ : List ℕ) where
+module _ (c : Call) (t : Target) (k : ℕ) (out out′ : List ℕ) (answer : Answer) where
   -- a call that is not lent the memory
   pub ran :
-      (call : View → Outcome View Unit) (x : Seen) (given : Outcome Seen Unit)
-      → ((v : View) (memory : List ℕ) → leaving memory (unlessUnsound call (sound v) tt) ≡ called c (sound v) memory)
-      → given ≡ unlessUnsound call x tt
-      → seen (r .target) ≡ given .state
-      → Wrote out 0 (said k (given .answer)) SAID out′ (r .length)
-      → RanOn c x k out r out′
-  ran call x given is e s w = record {
-    ran = λ memory.
-        ran-as (λ (a : Outcome Seen Unit). leaving memory a) (called c x memory) given (unlessUnsound call x tt) k out r out′
-        (same x memory) e (record { state = s; line = said-alone k (given .answer) w });
-    kept = λ memory. sym (ap (λ (z : Called). z .memory) (same x memory));
+      (call : View → Outcome View Unit) (r : Stepped)
+      → ((v : View) (m : List ℕ) → leaving m (unlessUnsound call (sound v) tt) ≡ called c (sound v) m)
+      → Met call t tt answer (r .target) tt
+      → ((m : List ℕ) → runs.Stepped t m (runs.line m c answer) (r .target) m)
+      → Wrote out 0 (said k answer) SAID out′ (r .length)
+      → RanOn c t k out r out′
+  ran call r is met step w = record {
+    on = λ m.
+        ran-as c t m k out r m out′ answer []
+        (ap (λ (o : Outcome Seen Unit). leaving m o) (met .outcome) ∙ same (seen t) m)
+        (step m) (said-alone k answer w);
   }
     where
-      same : (y : Seen) (memory : List ℕ) → leaving memory (unlessUnsound call y tt) ≡ called c y memory
-      same (sound v) memory = is v memory
-      same (unsound t) memory = refl
+      same : (x : Seen) (m : List ℕ) → leaving m (unlessUnsound call x tt) ≡ called c x m
+      same (sound v) m = is v m
+      same (unsound t) m = refl
 
   -- a call that only reads
   pub read-ran :
-      (call : View → Answer) (t : Target) (answer : Answer)
-      → ((v : View) (memory : List ℕ) → leaving memory (record { answer = call v; state = sound v; buffer = tt }) ≡ called c (sound v) memory)
-      → answer ≡ readUnlessUnsound call (seen t)
-      → r .target ≡ t
-      → Wrote out 0 (said k answer) SAID out′ (r .length)
-      → RanOn c (seen t) k out r out′
-  read-ran call t answer is e s w = record {
-    ran = λ memory.
-        ran-as (λ (a : Answer). leaving memory (read a (seen t))) (called c (seen t) memory) answer
-        (readUnlessUnsound call (seen t)) k out r out′
-        (same (seen t) memory) e (record { state = ap seen s; line = said-alone k answer w });
-    kept = λ memory. sym (ap (λ (z : Called). z .memory) (same (seen t) memory));
+      (call : View → Answer) (n : ℕ)
+      → ((v : View) (m : List ℕ) → leaving m (record { answer = call v; state = sound v; buffer = tt }) ≡ called c (sound v) m)
+      → ReadMet call t answer
+      → ((m : List ℕ) → runs.Stepped t m (runs.line m c answer) t m)
+      → Wrote out 0 (said k answer) SAID out′ n
+      → RanOn c t k out (record { target = t; length = n }) out′
+  read-ran call n is met step w = record {
+    on = λ m.
+        ran-as c t m k out (record { target = t; length = n }) m out′ answer []
+        (ap (λ (a : Answer). leaving m (read a (seen t))) (met .outcome) ∙ same (seen t) m)
+        (step m) (said-alone k answer w);
   }
     where
       read : Answer → Seen → Outcome Seen Unit
       read a x = record { answer = a; state = x; buffer = tt }
 
-      same : (y : Seen) (memory : List ℕ) → leaving memory (read (readUnlessUnsound call y) y) ≡ called c y memory
-      same (sound v) memory = is v memory
-      same (unsound t) memory = refl
+      same : (x : Seen) (m : List ℕ) → leaving m (read (readUnlessUnsound call x) x) ≡ called c x m
+      same (sound v) m = is v m
+      same (unsound t) m = refl
 
-module _ (memory : List ℕ) (q : Request) (k : ℕ) (out : List ℕ) (r : Stepped) (out′ : List ℕ) where
+module _ (t : Target) (m : List ℕ) (q : Request) (k : ℕ) (out : List ℕ) (d : RequestDone) (n : ℕ) (out′ : List ℕ) where
   pub put-ran :
-      (payload : List ℕ) (x : Seen) (given : Outcome Seen (List ℕ)) (memory′ : List ℕ)
-      → given ≡ unlessUnsound (λ v. request.put v memory q payload) x memory
-      → seen (r .target) ≡ given .state
-      → memory′ ≡ given .buffer
-      → Wrote out 0 (said k (given .answer)) SAID out′ (r .length)
-      → CallRan (called (put q payload) x memory) k out r memory′ out′
-  put-ran payload x given memory′ e s m w =
-      let o = unlessUnsound (λ v. request.put v memory q payload) x memory in
-      let same = by-seen x in
-      let p : Ran (storing given) k out r out′ = record { state = s; line = said-alone k (given .answer) w } in
-      record {
-        ran = ran-as storing (called (put q payload) x memory) given o k out r out′ same e p;
-        memory = m ∙ ap (λ (z : Outcome Seen (List ℕ)). z .buffer) e ∙ ap (λ (z : Called). z .memory) same;
-      }
+      (payload m′ : List ℕ)
+      → PutMet t m q payload d m′
+      → Wrote out 0 (said k (requestAnswer (d .answer))) SAID out′ n
+      → CallRan (put q payload) t m k out (record { target = d .target; length = n }) m′ out′
+  put-ran payload m′ met w =
+      ran-as (put q payload) t m k out (record { target = d .target; length = n }) m′ out′ (requestAnswer (d .answer)) []
+      (ap storing (met .outcome) ∙ by-seen (seen t))
+      (runs.put d met) (said-alone k (requestAnswer (d .answer)) w)
     where
-      by-seen : (y : Seen) → storing (unlessUnsound (λ v. request.put v memory q payload) y memory) ≡ called (put q payload) y memory
+      by-seen : (x : Seen) → storing (unlessUnsound (λ v. request.put v m q payload) x m) ≡ called (put q payload) x m
       by-seen (sound v) = refl
       by-seen (unsound t) = refl
 
   -- a get: its bytes follow what is said
   pub get-ran :
-      (reply : List ℕ) (x : Seen) (given : Outcome Seen (List ℕ)) (between : List ℕ) (n at : ℕ)
-      → given ≡ unlessUnsound (λ v. request.get v memory q reply) x reply
-      → seen (r .target) ≡ given .state
-      → n ≤ SCRIPT-MEMORY
-      → Wrote out 0 (said k (given .answer)) SAID between at
-      → Wrote between at (shownOf (given .answer) (given .buffer)) (2 + 2 * n) out′ (r .length)
-      → Ran (called (get q reply) x memory) k out r out′
-  get-ran reply x given between n at e s small w v =
-      let o = unlessUnsound (λ v. request.get v memory q reply) x reply in
-      let p : Ran (showing memory given) k out r out′ = record { state = s; line = shorter (omega arith) (and-then w v) } in
-      ran-as (λ (a : Outcome Seen (List ℕ)). showing memory a) (called (get q reply) x memory) given o k out r out′ (by-seen x) e p
+      (reply reply′ between : List ℕ) (size at : ℕ)
+      → GetMet t m q reply d reply′
+      → size ≤ SCRIPT-MEMORY
+      → Wrote out 0 (said k (requestAnswer (d .answer))) SAID between at
+      → Wrote between at (shownOf (requestAnswer (d .answer)) reply′) (2 + 2 * size) out′ n
+      → CallRan (get q reply) t m k out (record { target = d .target; length = n }) m out′
+  get-ran reply reply′ between size at met small w v =
+      ran-as (get q reply) t m k out (record { target = d .target; length = n }) m out′ (requestAnswer (d .answer))
+      (shownOf (requestAnswer (d .answer)) reply′)
+      (ap (λ (o : Outcome Seen (List ℕ)). showing m o) (met .outcome) ∙ by-seen (seen t))
+      (runs.get d met) (shorter (omega arith) (and-then w v))
     where
-      by-seen : (y : Seen) → showing memory (unlessUnsound (λ v. request.get v memory q reply) y reply) ≡ called (get q reply) y memory
+      by-seen : (x : Seen) → showing m (unlessUnsound (λ v. request.get v m q reply) x reply) ≡ called (get q reply) x m
       by-seen (sound v) = refl
       by-seen (unsound t) = refl
 
@@ -178,47 +179,30 @@ call-fits s l call known good is e =
 
 -- a call that is known
 pub known-ran :
-    (s : List ℕ) (l : Line) (call known : script.Call) (t : Seen) (memory : List ℕ) (k : ℕ) (out : List ℕ) (r : Stepped)
-    (memory′ out′ : List ℕ)
+    (s : List ℕ) (l : Line) (call known : script.Call) (t : Target) (m : List ℕ) (k : ℕ) (out : List ℕ) (r : Stepped) (m′ out′ : List ℕ)
     → call ≡ callOf (callKind (l .kind)) s l
     → call ≡ known
-    → CallRan (called (asked s known) t memory) k out r memory′ out′
-    → CallRan (called (callBy s l) t memory) k out r memory′ out′
-known-ran s l call known t memory k out r memory′ out′ is e p =
-    subst (λ (x : script.Call). CallRan (called (asked s x) t memory) k out r memory′ out′) (sym e ∙ is) p
-
--- a call that is not lent the memory leaves it
-pub leaves :
-    (c : Call) (t : Seen) (memory : List ℕ) (k : ℕ) (out : List ℕ) (r : Stepped) (out′ : List ℕ)
-    → RanOn c t k out r out′
-    → CallRan (called c t memory) k out r memory out′
-leaves c t memory k out r out′ p = record { ran = p .ran memory; memory = sym (p .kept memory) }
-
-pub get-leaves :
-    (q : Request) (reply : List ℕ) (t : Seen) (memory : List ℕ) (k : ℕ) (out : List ℕ) (r : Stepped) (out′ : List ℕ)
-    → Ran (called (get q reply) t memory) k out r out′
-    → CallRan (called (get q reply) t memory) k out r memory out′
-get-leaves q reply t memory k out r out′ p = record { ran = p; memory = kept t }
-  where
-    kept : (x : Seen) → memory ≡ called (get q reply) x memory .memory
-    kept (sound v) = refl
-    kept (unsound t) = refl
+    → CallRan (asked s known) t m k out r m′ out′
+    → CallRan (callBy s l) t m k out r m′ out′
+known-ran s l call known t m k out r m′ out′ is e p =
+    subst (λ (x : script.Call). CallRan (asked s x) t m k out r m′ out′) (sym e ∙ is) p
 
 -- ## The line
 
 -- with the newline behind it, the buffer begins with the whole line
 pub line-ran :
-    (s : List ℕ) (l : Line) (t : Seen) (memory : List ℕ) (k : ℕ) (out between : List ℕ) (r : Stepped) (n : ℕ) (memory′ out′ : List ℕ)
+    (s : List ℕ) (l : Line) (t : Target) (m : List ℕ) (k : ℕ) (out between : List ℕ) (r : Stepped) (n : ℕ) (m′ out′ : List ℕ)
     → l ≡ lineAt s k
-    → CallRan (called (callBy s l) t memory) k out r memory′ between
+    → CallRan (callBy s l) t m k out r m′ between
     → Wrote between (r .length) (bytesOf "\n") 1 out′ n
-    → LineRan (called (callAt s k) t memory) k (record { target = r .target; length = n }) memory′ out′
+    → LineRan (callAt s k) t m k (record { target = r .target; length = n }) m′ out′
 unfolding lineOf
-line-ran s l t memory k out between r n memory′ out′ is p w =
-    let q = subst (λ (x : Line). CallRan (called (callBy s x) t memory) k out r memory′ between) is p in
-    let line = and-then (q .ran .line) w in
+line-ran s l t m k out between r n m′ out′ is p w =
+    let q = subst (λ (x : Line). CallRan (callBy s x) t m k out r m′ between) is p in
+    let line = and-then (q .line) w in
     record {
-      state = q .ran .state;
+      step = q .step;
+      state = q .state;
       memory = q .memory;
       line = line .front;
       short = omega (arith, line .next, line .short);

@@ -1,3 +1,4 @@
 pub mod Run
 pub mod Printout
+pub mod Log
 pub mod Promises

@@ -14,7 +14,7 @@ ghost use Rattle.reader.specs.Contents.{headOf};
 ghost use Rattle.reader.specs.Judging.{verdictOf};
 ghost use Rattle.reader.specs.declared.judging.Verdict.the-variants as Verdict;
 ghost use Rattle.script.specs.Printout.{printoutOf};
-ghost use Rattle.script.specs.Promises.{LINE, Next};
+ghost use Rattle.script.specs.Promises.{LINE, Next, Replayed};
 
 // How far a printout is written.
 pub struct Report {
@@ -75,7 +75,7 @@ fn report_call(script: &[u8], begun: Report, call: usize, out: &mut [u8]) -> Rep
 // Runs a good script on a memory. The line of a call goes out before the next call.
 fn run_lines(script: &[u8], begun: Report, memory: &mut [u8], out: &mut [u8]) -> Report
     requires { ⌜ (verdictOf (now script) ≡ Verdict.Good) × ((begun .bytes ≡ 0) × ((now memory ≡ replicate (headOf (now script) .memory) 0) × (LINE ≤ length (now out)))) ⌝ }
-    ensures { λ r. ⌜ r .bytes ≡ length (printoutOf (now (script .entry))) ⌝ }
+    ensures { λ r. ⌜ Replayed (now (script .entry)) r ⌝ }
 {
     let head = contents::head_of(script);
     let made = making::new(Settings { size: head.memory });
@@ -97,7 +97,7 @@ fn run_lines(script: &[u8], begun: Report, memory: &mut [u8], out: &mut [u8]) ->
 // Runs a good script: its memory is the leading part of 16,384 zero bytes.
 fn run_good(script: &[u8], begun: Report, out: &mut [u8]) -> Report
     requires { ⌜ (verdictOf (now script) ≡ Verdict.Good) × ((begun .bytes ≡ 0) × (LINE ≤ length (now out))) ⌝ }
-    ensures { λ r. ⌜ r .bytes ≡ length (printoutOf (now (script .entry))) ⌝ }
+    ensures { λ r. ⌜ Replayed (now (script .entry)) r ⌝ }
 {
     let head = contents::head_of(script);
     let size = head.memory as usize;
@@ -107,7 +107,7 @@ fn run_good(script: &[u8], begun: Report, out: &mut [u8]) -> Report
 
 // Judges a script and writes its printout: of a good one, what each call answers when all are run on a new target.
 pub fn replay(script: &[u8]) -> Report
-    ensures { λ r. ⌜ r .bytes ≡ length (printoutOf (now (script .entry))) ⌝ }
+    ensures { λ r. ⌜ Replayed (now (script .entry)) r ⌝ }
 {
     let mut out = line_buffer();
     let begun = Report {

@@ -22,11 +22,9 @@ ghost use Prim.Native.Nat.{_≤_};
 ghost use lib.ListN.{length, replicate};
 ghost use Rattle.reader.specs.Contents.{lineAt};
 ghost use Rattle.reader.specs.Judging.{SCRIPT-MEMORY, wellFormed};
-ghost use Rattle.state.specs.Soundness.{seen};
 ghost use Rattle.portals.specs.Calls as Calls;
-ghost use Rattle.script.specs.Run.{called};
 ghost use Rattle.script.specs.Printout.{callBy, callAt};
-ghost use Rattle.script.specs.Promises.{TEXT, LINE, Ran, RanOn, CallRan, LineRan};
+ghost use Rattle.script.specs.Promises.{TEXT, LINE, CallRan, RanOn, LineRan};
 
 // The state that a call leaves, and how many bytes of its line are in the buffer.
 pub struct Stepped {
@@ -36,7 +34,7 @@ pub struct Stepped {
 
 fn run_append(t: Target, e: Entry, k: usize, out: &mut [u8]) -> Stepped
     requires { ⌜ TEXT ≤ length (now out) ⌝ }
-    ensures { λ r. ⌜ RanOn (Calls.append e) (seen t) k (now (out .entry)) r (now (out .exit)) ⌝ }
+    ensures { λ r. ⌜ RanOn (Calls.append e) t k (now (out .entry)) r (now (out .exit)) ⌝ }
 {
     let d = append::append(t, e);
     let answer = d.answer;
@@ -47,7 +45,7 @@ fn run_append(t: Target, e: Entry, k: usize, out: &mut [u8]) -> Stepped
 
 fn run_unlink(t: Target, handle: u32, k: usize, out: &mut [u8]) -> Stepped
     requires { ⌜ TEXT ≤ length (now out) ⌝ }
-    ensures { λ r. ⌜ RanOn (Calls.unlink handle) (seen t) k (now (out .entry)) r (now (out .exit)) ⌝ }
+    ensures { λ r. ⌜ RanOn (Calls.unlink handle) t k (now (out .entry)) r (now (out .exit)) ⌝ }
 {
     let d = unlink::unlink(t, handle);
     let answer = d.answer;
@@ -58,7 +56,7 @@ fn run_unlink(t: Target, handle: u32, k: usize, out: &mut [u8]) -> Stepped
 
 fn run_search(t: Target, e: Entry, k: usize, out: &mut [u8]) -> Stepped
     requires { ⌜ TEXT ≤ length (now out) ⌝ }
-    ensures { λ r. ⌜ RanOn (Calls.search e) (seen t) k (now (out .entry)) r (now (out .exit)) ⌝ }
+    ensures { λ r. ⌜ RanOn (Calls.search e) t k (now (out .entry)) r (now (out .exit)) ⌝ }
 {
     let d = search::search(t, e);
     let answer = d.answer;
@@ -76,7 +74,7 @@ fn run_put(
     out: &mut [u8],
 ) -> Stepped
     requires { ⌜ TEXT ≤ length (now out) ⌝ }
-    ensures { λ r. ⌜ CallRan (called (Calls.put q (now (payload .entry))) (seen t) (now (memory .entry))) k (now (out .entry)) r (now (memory .exit)) (now (out .exit)) ⌝ }
+    ensures { λ r. ⌜ CallRan (Calls.put q (now (payload .entry))) t (now (memory .entry)) k (now (out .entry)) r (now (memory .exit)) (now (out .exit)) ⌝ }
 {
     let d = put_get::put(t, memory, q, payload);
     let answer = d.answer;
@@ -95,7 +93,7 @@ fn run_get_into(
     out: &mut [u8],
 ) -> Stepped
     requires { ⌜ (length (now reply) ≤ SCRIPT-MEMORY) × (TEXT ≤ length (now out)) ⌝ }
-    ensures { λ r. ⌜ Ran (called (Calls.get q (now (reply .entry))) (seen t) (now (memory .entry))) k (now (out .entry)) r (now (out .exit)) ⌝ }
+    ensures { λ r. ⌜ CallRan (Calls.get q (now (reply .entry))) t (now (memory .entry)) k (now (out .entry)) r (now (memory .entry)) (now (out .exit)) ⌝ }
 {
     let d = put_get::get(t, memory, q, reply);
     let answer = d.answer;
@@ -115,7 +113,7 @@ pub(crate) fn zero_bytes() -> [u8; 16384]
 // A get for so many bytes. Its reply buffer is all zero before.
 fn run_get(t: Target, memory: &[u8], q: Request, asked: usize, k: usize, out: &mut [u8]) -> Stepped
     requires { ⌜ (asked ≤ SCRIPT-MEMORY) × (TEXT ≤ length (now out)) ⌝ }
-    ensures { λ r. ⌜ Ran (called (Calls.get q (replicate asked 0)) (seen t) (now (memory .entry))) k (now (out .entry)) r (now (out .exit)) ⌝ }
+    ensures { λ r. ⌜ CallRan (Calls.get q (replicate asked 0)) t (now (memory .entry)) k (now (out .entry)) r (now (memory .entry)) (now (out .exit)) ⌝ }
 {
     let mut reply = zero_bytes();
     run_get_into(t, memory, q, &mut reply[..asked], k, out)
@@ -123,7 +121,7 @@ fn run_get(t: Target, memory: &[u8], q: Request, asked: usize, k: usize, out: &m
 
 fn run_read_event(t: Target, k: usize, out: &mut [u8]) -> Stepped
     requires { ⌜ TEXT ≤ length (now out) ⌝ }
-    ensures { λ r. ⌜ RanOn Calls.readEvent (seen t) k (now (out .entry)) r (now (out .exit)) ⌝ }
+    ensures { λ r. ⌜ RanOn Calls.readEvent t k (now (out .entry)) r (now (out .exit)) ⌝ }
 {
     let d = events::read_event(t);
     let answer = d.answer;
@@ -134,7 +132,7 @@ fn run_read_event(t: Target, k: usize, out: &mut [u8]) -> Stepped
 
 fn run_set_counter(t: Target, x: CounterChange, k: usize, out: &mut [u8]) -> Stepped
     requires { ⌜ TEXT ≤ length (now out) ⌝ }
-    ensures { λ r. ⌜ RanOn (Calls.setCounter x) (seen t) k (now (out .entry)) r (now (out .exit)) ⌝ }
+    ensures { λ r. ⌜ RanOn (Calls.setCounter x) t k (now (out .entry)) r (now (out .exit)) ⌝ }
 {
     let d = counters::set_counter(t, x);
     let answer = d.answer;
@@ -145,7 +143,7 @@ fn run_set_counter(t: Target, x: CounterChange, k: usize, out: &mut [u8]) -> Ste
 
 fn run_increment(t: Target, x: CounterChange, k: usize, out: &mut [u8]) -> Stepped
     requires { ⌜ TEXT ≤ length (now out) ⌝ }
-    ensures { λ r. ⌜ RanOn (Calls.increment x) (seen t) k (now (out .entry)) r (now (out .exit)) ⌝ }
+    ensures { λ r. ⌜ RanOn (Calls.increment x) t k (now (out .entry)) r (now (out .exit)) ⌝ }
 {
     let d = counters::increment(t, x);
     let answer = d.answer;
@@ -156,7 +154,7 @@ fn run_increment(t: Target, x: CounterChange, k: usize, out: &mut [u8]) -> Stepp
 
 fn run_read_counter(t: Target, n: u64, k: usize, out: &mut [u8]) -> Stepped
     requires { ⌜ TEXT ≤ length (now out) ⌝ }
-    ensures { λ r. ⌜ RanOn (Calls.readCounter n) (seen t) k (now (out .entry)) r (now (out .exit)) ⌝ }
+    ensures { λ r. ⌜ RanOn (Calls.readCounter n) t k (now (out .entry)) r (now (out .exit)) ⌝ }
 {
     let answer = counters::read_counter(t, n);
     let length = said::counter_said(out, k, answer);
@@ -165,7 +163,7 @@ fn run_read_counter(t: Target, n: u64, k: usize, out: &mut [u8]) -> Stepped
 
 fn run_read_register(t: Target, n: u64, k: usize, out: &mut [u8]) -> Stepped
     requires { ⌜ TEXT ≤ length (now out) ⌝ }
-    ensures { λ r. ⌜ RanOn (Calls.readRegister n) (seen t) k (now (out .entry)) r (now (out .exit)) ⌝ }
+    ensures { λ r. ⌜ RanOn (Calls.readRegister n) t k (now (out .entry)) r (now (out .exit)) ⌝ }
 {
     let answer = registers::read_register(t, n);
     let length = said::register_said(out, k, answer);
@@ -182,7 +180,7 @@ fn run_call(
     out: &mut [u8],
 ) -> Stepped
     requires { ⌜ (wellFormed (now script) l ≡ true) × (TEXT ≤ length (now out)) ⌝ }
-    ensures { λ r. ⌜ CallRan (called (callBy (now (script .entry)) l) (seen t) (now (memory .entry))) k (now (out .entry)) r (now (memory .exit)) (now (out .exit)) ⌝ }
+    ensures { λ r. ⌜ CallRan (callBy (now (script .entry)) l) t (now (memory .entry)) k (now (out .entry)) r (now (memory .exit)) (now (out .exit)) ⌝ }
 {
     match calls::call_of(script, l) {
         Call::Append(e) => run_append(t, e, k, out),
@@ -207,7 +205,7 @@ pub(crate) fn run_line(
     out: &mut [u8],
 ) -> Stepped
     requires { ⌜ (wellFormed (now script) (lineAt (now script) k) ≡ true) × (LINE ≤ length (now out)) ⌝ }
-    ensures { λ r. ⌜ LineRan (called (callAt (now (script .entry)) k) (seen t) (now (memory .entry))) k r (now (memory .exit)) (now (out .exit)) ⌝ }
+    ensures { λ r. ⌜ LineRan (callAt (now (script .entry)) k) t (now (memory .entry)) k r (now (memory .exit)) (now (out .exit)) ⌝ }
 {
     let l = contents::line_at(script, k);
     let s = run_call(t, memory, script, l, k, out);

@@ -1,6 +1,7 @@
 use mathlib.Core.Path.{refl, sym, _∙_}
 use Rattle.script.specs.Promises.{LINE}
 use Rattle.script.proofs.ZeroLaws.{zeros-length}
+use Rattle.script.proofs.ReplayLaws.{head-replayed, call-replayed}
 use native.Mathlib.Omega.{arith}
 use borrow.Author.Needs.{needs}
 use Rattle.script.proofs.replay.replay.Statement.{statement}
@@ -55,10 +56,20 @@ returns : tie.Need-returns
 returns c = search needs
 
 returns-2 : tie.Need-returns-2
-returns-2 c = search needs
+returns-2 c =
+    let reported = c .before in
+    let arm = reported .before .before in
+    let judged = arm .before .before in
+    let bad = sym (judged .judge .ensures) ∙ arm .enum-told2 .given .1 in
+    head-replayed _ (reported .report-head .result) bad (reported .report-head .ensures)
 
 returns-3 : tie.Need-returns-3
-returns-3 c = search needs
+returns-3 c =
+    let reported = c .before in
+    let arm = reported .before .before .before in
+    let judged = arm .before .before in
+    let bad = sym (judged .judge .ensures) ∙ arm .call .given .1 in
+    call-replayed _ _ (reported .report-call .result) bad (reported .report-call .ensures)
 
 pub replay-spec : {M : Type 1} → statement M
 replay-spec =

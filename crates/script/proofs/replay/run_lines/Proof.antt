@@ -31,8 +31,8 @@ loop-holds c =
     let i = made .before .before .before .before .before in
     let a = i .args in
     let begins =
-    going-begins (a .script .now) (made .before .head-of .result) (a .begun) (made .new .result .target) (a .memory .now)
-    (made .before .head-of .ensures) (i .pre .0) (i .pre .1 .0) (made .new .ensures .state) (i .pre .1 .1 .0) in
+    going-begins (a .script .now) (made .before .head-of .result) (a .begun) (made .new .result) (a .memory .now)
+    (made .before .head-of .ensures) (i .pre .0) (i .pre .1 .0) (made .new .ensures) (i .pre .1 .1 .0) in
     (refl, (refl, begins))
 
 run-line-requires : tie.Need-run-line-requires Inv-loop μ-loop

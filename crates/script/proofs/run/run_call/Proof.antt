@@ -1,6 +1,4 @@
-use lib.ListN.{replicate}
-use Rattle.state.specs.Soundness.{seen}
-use Rattle.script.proofs.RunLaws.{call-fits, known-ran, leaves, get-leaves}
+use Rattle.script.proofs.RunLaws.{call-fits, known-ran}
 use borrow.Author.Needs.{needs}
 use Rattle.script.proofs.run.run_call.Statement.{statement}
 use Rattle.script.proofs.run.run_call.Tie as tie
@@ -102,8 +100,8 @@ returns c =
     let arm = ran .before .before .before in
     let call = arm .before .before .call-of in
     let a = arm .before .before .before .before .before .before .args in
-    known-ran (a .script .now) (a .l) _ _ (seen (a .t)) (a .memory .now) (a .k) _ _ _ _ (call .ensures) (arm .e .given .1)
-    (leaves _ _ (a .memory .now) (a .k) _ _ _ (ran .run-append .ensures))
+    known-ran (a .script .now) (a .l) _ _ (a .t) (a .memory .now) (a .k) _ _ _ _ (call .ensures) (arm .e .given .1)
+    (ran .run-append .ensures .on (a .memory .now))
 
 same-length-2 : tie.Need-same-length-2
 same-length-2 c = search needs
@@ -114,8 +112,8 @@ returns-2 c =
     let arm = ran .before .before .before in
     let call = arm .before .before .call-of in
     let a = arm .before .before .before .before .before .before .args in
-    known-ran (a .script .now) (a .l) _ _ (seen (a .t)) (a .memory .now) (a .k) _ _ _ _ (call .ensures) (arm .handle .given .1)
-    (leaves _ _ (a .memory .now) (a .k) _ _ _ (ran .run-unlink .ensures))
+    known-ran (a .script .now) (a .l) _ _ (a .t) (a .memory .now) (a .k) _ _ _ _ (call .ensures) (arm .handle .given .1)
+    (ran .run-unlink .ensures .on (a .memory .now))
 
 same-length-3 : tie.Need-same-length-3
 same-length-3 c = search needs
@@ -129,7 +127,7 @@ returns-3 c =
     let arm = ran .before .before .before .before .before in
     let call = arm .before .before .call-of in
     let a = arm .before .before .before .before .before .before .args in
-    known-ran (a .script .now) (a .l) _ _ (seen (a .t)) (a .memory .now) (a .k) _ _ _ _ (call .ensures) (arm .request .given .1)
+    known-ran (a .script .now) (a .l) _ _ (a .t) (a .memory .now) (a .k) _ _ _ _ (call .ensures) (arm .request .given .1)
     (ran .run-put .ensures)
 
 same-length-5 : tie.Need-same-length-5
@@ -144,9 +142,9 @@ returns-4 c =
     let arm = ran .before .before .before .before in
     let call = arm .before .before .call-of in
     let a = arm .before .before .before .before .before .before .args in
-    known-ran (a .script .now) (a .l) _ _ (seen (a .t)) (a .memory .now) (a .k) _ _ _ _ (call .ensures)
+    known-ran (a .script .now) (a .l) _ _ (a .t) (a .memory .now) (a .k) _ _ _ _ (call .ensures)
     (arm .request2 .given .1)
-    (get-leaves (arm .request2 .given .0 .0) (replicate (arm .request2 .given .0 .1 .0) 0) (seen (a .t)) (a .memory .now) (a .k) _ _ _ (ran .run-get .ensures))
+    (ran .run-get .ensures)
 
 same-length-7 : tie.Need-same-length-7
 same-length-7 c = search needs
@@ -157,8 +155,8 @@ returns-5 c =
     let arm = ran .before .before in
     let call = arm .before .before .call-of in
     let a = arm .before .before .before .before .before .before .args in
-    known-ran (a .script .now) (a .l) _ _ (seen (a .t)) (a .memory .now) (a .k) _ _ _ _ (call .ensures)
-    (arm .enum-told .given .1) (leaves _ _ (a .memory .now) (a .k) _ _ _ (ran .run-read-event .ensures))
+    known-ran (a .script .now) (a .l) _ _ (a .t) (a .memory .now) (a .k) _ _ _ _ (call .ensures)
+    (arm .enum-told .given .1) (ran .run-read-event .ensures .on (a .memory .now))
 
 same-length-8 : tie.Need-same-length-8
 same-length-8 c = search needs
@@ -169,8 +167,8 @@ returns-6 c =
     let arm = ran .before .before .before in
     let call = arm .before .before .call-of in
     let a = arm .before .before .before .before .before .before .args in
-    known-ran (a .script .now) (a .l) _ _ (seen (a .t)) (a .memory .now) (a .k) _ _ _ _ (call .ensures) (arm .n .given .1)
-    (leaves _ _ (a .memory .now) (a .k) _ _ _ (ran .run-read-counter .ensures))
+    known-ran (a .script .now) (a .l) _ _ (a .t) (a .memory .now) (a .k) _ _ _ _ (call .ensures) (arm .n .given .1)
+    (ran .run-read-counter .ensures .on (a .memory .now))
 
 same-length-9 : tie.Need-same-length-9
 same-length-9 c = search needs
@@ -181,8 +179,8 @@ returns-7 c =
     let arm = ran .before .before .before in
     let call = arm .before .before .call-of in
     let a = arm .before .before .before .before .before .before .args in
-    known-ran (a .script .now) (a .l) _ _ (seen (a .t)) (a .memory .now) (a .k) _ _ _ _ (call .ensures) (arm .x .given .1)
-    (leaves _ _ (a .memory .now) (a .k) _ _ _ (ran .run-set-counter .ensures))
+    known-ran (a .script .now) (a .l) _ _ (a .t) (a .memory .now) (a .k) _ _ _ _ (call .ensures) (arm .x .given .1)
+    (ran .run-set-counter .ensures .on (a .memory .now))
 
 same-length-10 : tie.Need-same-length-10
 same-length-10 c = search needs
@@ -193,8 +191,8 @@ returns-8 c =
     let arm = ran .before .before .before in
     let call = arm .before .before .call-of in
     let a = arm .before .before .before .before .before .before .args in
-    known-ran (a .script .now) (a .l) _ _ (seen (a .t)) (a .memory .now) (a .k) _ _ _ _ (call .ensures) (arm .x2 .given .1)
-    (leaves _ _ (a .memory .now) (a .k) _ _ _ (ran .run-increment .ensures))
+    known-ran (a .script .now) (a .l) _ _ (a .t) (a .memory .now) (a .k) _ _ _ _ (call .ensures) (arm .x2 .given .1)
+    (ran .run-increment .ensures .on (a .memory .now))
 
 same-length-11 : tie.Need-same-length-11
 same-length-11 c = search needs
@@ -205,8 +203,8 @@ returns-9 c =
     let arm = ran .before .before .before in
     let call = arm .before .before .call-of in
     let a = arm .before .before .before .before .before .before .args in
-    known-ran (a .script .now) (a .l) _ _ (seen (a .t)) (a .memory .now) (a .k) _ _ _ _ (call .ensures) (arm .e2 .given .1)
-    (leaves _ _ (a .memory .now) (a .k) _ _ _ (ran .run-search .ensures))
+    known-ran (a .script .now) (a .l) _ _ (a .t) (a .memory .now) (a .k) _ _ _ _ (call .ensures) (arm .e2 .given .1)
+    (ran .run-search .ensures .on (a .memory .now))
 
 same-length-12 : tie.Need-same-length-12
 same-length-12 c = search needs
@@ -217,8 +215,8 @@ returns-10 c =
     let arm = ran .before .before .before in
     let call = arm .before .before .call-of in
     let a = arm .before .before .before .before .before .before .args in
-    known-ran (a .script .now) (a .l) _ _ (seen (a .t)) (a .memory .now) (a .k) _ _ _ _ (call .ensures) (arm .n2 .given .1)
-    (leaves _ _ (a .memory .now) (a .k) _ _ _ (ran .run-read-register .ensures))
+    known-ran (a .script .now) (a .l) _ _ (a .t) (a .memory .now) (a .k) _ _ _ _ (call .ensures) (arm .n2 .given .1)
+    (ran .run-read-register .ensures .on (a .memory .now))
 
 pub run-call-spec : {M : Type 1} → statement M
 run-call-spec =

@@ -1,6 +1,4 @@
-use Rattle.state.specs.Soundness.{seen}
 use native.Mathlib.Omega.{arith}
-use mathlib.Core.Path.{refl}
 use lib.ListN.{length}
 use Rattle.script.proofs.RunLaws.{get-ran}
 use borrow.Author.Needs.{needs}
@@ -30,8 +28,8 @@ returns c =
     let i = called .before .before .before .before .before in
     let a = i .args in
     let reply = called .get .last .1 .1 .1 .0 in
-    get-ran (a .memory .now) (a .q) (a .k) _ _ _ (a .reply .now) (seen (a .t)) _ _ (length reply) _
-    (called .get .ensures .outcome) refl (omega (arith, i .pre .0, called .get .kept .1 .1 .1 .0))
+    get-ran (a .t) (a .memory .now) (a .q) (a .k) _ (called .get .result) _ _ (a .reply .now) _ _ (length reply) _
+    (called .get .ensures) (omega (arith, i .pre .0, called .get .kept .1 .1 .1 .0))
     (printed .request-said .ensures) (shown .put-reply .ensures)
 
 pub run-get-into-spec : {M : Type 1} → statement M

@@ -1,7 +1,7 @@
-use Rattle.state.specs.Soundness.{seen}
 use Rattle.portals.specs.Calls as Calls
 use Rattle.portals.specs.CounterCalls as counters
 use mathlib.Core.Path.{refl}
+use Rattle.conservation.specs.Runs as runs
 use Rattle.script.proofs.RunLaws.{ran}
 use borrow.Author.Needs.{needs}
 use Rattle.script.proofs.run.run_increment.Statement.{statement}
@@ -21,8 +21,9 @@ returns c =
     let printed = c .before .before .before in
     let called = printed .before .before in
     let a = called .before .before .args in
-    ran (Calls.increment (a .x)) (a .k) _ _ _ (λ v. counters.increment v (a .x)) (seen (a .t)) _ (λ v memory. refl)
-    (called .increment .ensures .outcome) refl (printed .plain-said .ensures)
+    let met = called .increment .ensures in
+    ran (Calls.increment (a .x)) (a .t) (a .k) _ _ _ (λ v. counters.increment v (a .x)) _ (λ v m. refl) met
+    (λ m. runs.increment (called .increment .result) met) (printed .plain-said .ensures)
 
 pub run-increment-spec : {M : Type 1} → statement M
 run-increment-spec =

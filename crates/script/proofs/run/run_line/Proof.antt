@@ -1,4 +1,3 @@
-use Rattle.state.specs.Soundness.{seen}
 use mathlib.Core.Path.{_≡_, sym, subst}
 use mathlib.Core.Bool.{true}
 use Rattle.reader.specs.Judging.{wellFormed}
@@ -32,7 +31,7 @@ returns c =
     let called = ended .before .before .before .before .before .before in
     let line = called .before .before .before in
     let i = line .before .before .before .before in
-    line-ran (i .args .script .now) (line .line-at .result) (seen (i .args .t)) (i .args .memory .now) (i .args .k) _ _
+    line-ran (i .args .script .now) (line .line-at .result) (i .args .t) (i .args .memory .now) (i .args .k) _ _
     (called .run-call .result) _ _ _ (line .line-at .ensures) (called .run-call .ensures) (ended .put-byte .ensures)
 
 pub run-line-spec : {M : Type 1} → statement M

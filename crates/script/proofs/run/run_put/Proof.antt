@@ -1,5 +1,3 @@
-use Rattle.state.specs.Soundness.{seen}
-use mathlib.Core.Path.{refl}
 use Rattle.script.proofs.RunLaws.{put-ran}
 use borrow.Author.Needs.{needs}
 use Rattle.script.proofs.run.run_put.Statement.{statement}
@@ -22,7 +20,7 @@ returns c =
     let printed = c .before .before .before in
     let called = printed .before .before .before .before in
     let a = called .before .before .before .before .before .args in
-    put-ran (a .memory .now) (a .q) (a .k) _ _ _ (a .payload .now) (seen (a .t)) _ _ (called .put .ensures .outcome) refl refl
+    put-ran (a .t) (a .memory .now) (a .q) (a .k) _ (called .put .result) _ _ (a .payload .now) _ (called .put .ensures)
     (printed .request-said .ensures)
 
 pub run-put-spec : {M : Type 1} → statement M

@@ -1,7 +1,7 @@
-use Rattle.state.specs.Soundness.{seen}
 use Rattle.portals.specs.Calls as Calls
 use Rattle.portals.specs.EventRead as events
 use mathlib.Core.Path.{refl}
+use Rattle.conservation.specs.Runs as runs
 use Rattle.script.proofs.RunLaws.{ran}
 use borrow.Author.Needs.{needs}
 use Rattle.script.proofs.run.run_read_event.Statement.{statement}
@@ -21,8 +21,9 @@ returns c =
     let printed = c .before .before .before in
     let called = printed .before .before in
     let a = called .before .before .args in
-    ran Calls.readEvent (a .k) _ _ _ (λ v. events.readEvent v) (seen (a .t)) _ (λ v memory. refl)
-    (called .read-event .ensures .outcome) refl (printed .event-said .ensures)
+    let met = called .read-event .ensures in
+    ran Calls.readEvent (a .t) (a .k) _ _ _ (λ v. events.readEvent v) _ (λ v m. refl) met
+    (λ m. runs.readEvent (called .read-event .result) met) (printed .event-said .ensures)
 
 pub run-read-event-spec : {M : Type 1} → statement M
 run-read-event-spec =
