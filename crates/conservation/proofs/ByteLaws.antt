@@ -9,7 +9,7 @@ use native.Mathlib.Omega.{arith}
 use native.Mathlib.Decide.{decLe}
 use borrow.Author.Tests.{ltb-false}
 use lib.ListN.{length, take, drop, length-take, length-drop, length-append, take-append-drop}
-use lib.Seq.{take-nil, take-append-le, take-at, take-take, drop-append-le, drop-append-add, drop-at, drop-drop}
+use lib.Seq.{take-append-le, take-at, drop-append-le, drop-append-add, drop-at, drop-drop}
 use Rattle.matching.specs.declared.layout.Entry.{Entry}
 use Rattle.state.specs.Lists.{overwritten}
 use Rattle.conservation.specs.Bytes.{bytesAt, shareByte}
@@ -20,26 +20,6 @@ front l r p n h =
     let before : p ≤ length l = omega arith in
     let enough : n ≤ length (drop p l) = simp length-drop (omega arith) in
     ap (take n) (drop-append-le p l r before) ∙ take-append-le n (drop p l) r enough
-
--- bytes of a list's first k, as many as these have
-taken : (k : ℕ) (l : List ℕ) (p n : ℕ) → p + n ≤ k → bytesAt (take k l) p n ≡ bytesAt l p n
-taken k l zero n h = take-take n k l (omega arith)
-taken k [] (suc p) n h = ap (λ (l : List ℕ). bytesAt l (suc p) n) (take-nil k)
-taken zero (x ∷ l) (suc p) n h = absurd (omega arith)
-taken (suc k) (x ∷ l) (suc p) n h = taken k l p n (omega arith)
-
--- equal bytes of a whole region are equal in each part of it
-pub inside-same : (l m : List ℕ) (start k p n : ℕ) → start ≤ p → p + n ≤ start + k
-    → bytesAt l start k ≡ bytesAt m start k
-    → bytesAt l p n ≡ bytesAt m p n
-inside-same l m start k p n low high e = sym (inside l) ∙ ap (λ (r : List ℕ). bytesAt r (p - start) n) e ∙ inside m
-  where
-    inside : (r : List ℕ) → bytesAt (bytesAt r start k) (p - start) n ≡ bytesAt r p n
-    inside r =
-        let there : start + (p - start) ≡ p = omega arith in
-        taken k (drop start r) (p - start) n (omega arith)
-        ∙ ap (take n) (drop-drop (p - start) start r)
-        ∙ ap (λ (q : ℕ). bytesAt r q n) there
 
 -- ## A write
 

@@ -16,18 +16,18 @@ use Rattle.state.specs.declared.layout.CounterChange.{CounterChange}
 use Rattle.state.specs.declared.layout.CounterTest.{CounterTest}
 use Rattle.state.proofs.ListLaws.{cond-cases}
 use Rattle.portals.specs.Refusals.{Condition, goodArguments, unlessRefused}
-use Rattle.portals.specs.Answers.{Answer, LINKED, DONE, COUNTER, REGISTER, READY, NOT-READY, refused}
+use Rattle.portals.specs.Answers.{Answer, DONE, COUNTER, REGISTER, READY, NOT-READY, refused}
 use Rattle.portals.specs.Outcome.{Outcome, refusal, guarded, guardedRead}
 use Rattle.portals.specs.EventRead.{oldestOf, readEvent}
 use Rattle.portals.specs.CounterCalls.{counterTests, counterDone, isReady, badPollArgument, reachedFrom, reachedAnswer, badRegisterArgument, setCounter, increment, readCounter, readRegister, ready, poll}
 use Rattle.portals.specs.Calls.{Call}
 use Rattle.portals.specs.Calls as calls
 use Rattle.portals.proofs.GuardLaws.{guard-cases, unless-map}
-use Rattle.conservation.specs.Steps.{called, wrote, says}
+use Rattle.conservation.specs.Steps.{called, wrote, saysLinked}
 use Rattle.conservation.specs.Ledger.{Ledger, nothing, callEffect}
 use Rattle.conservation.specs.Answering.{AnswerRight}
-use Rattle.conservation.proofs.Relations.{Logs, Related, Follows}
-use Rattle.conservation.proofs.EventLaws.{unread, logged-read, reads-more, overflow-shown}
+use Rattle.conservation.proofs.Relations.{SameEvents, Related, Follows}
+use Rattle.conservation.proofs.EventLaws.{unread, read-one, reads-more, overflow-shown}
 use Rattle.conservation.proofs.StepLaws.{Unregistered, Plain, Kept, same-count, same-register, same-messages, plain-kept, refused-kept}
 
 module _ (b : Ledger) (v : View) (m : List ℕ) (r : Related b v m) where
@@ -85,7 +85,7 @@ module _ (b : Ledger) (v : View) (m : List ℕ) (r : Related b v m) where
   increment-kept x =
       counter-kept (calls.increment x) (x .counter) (increased (counterAt (v .counters) (x .counter)) (x .success) (x .failure)) refl
 
-  oldest-gives : (events : List Event) → says (oldestOf events) (LINKED 0) ≡ false
+  oldest-gives : (events : List Event) → saysLinked (oldestOf events) ≡ false
   oldest-gives [] = refl
   oldest-gives (e ∷ rest) = refl
 
@@ -101,8 +101,8 @@ module _ (b : Ledger) (v : View) (m : List ℕ) (r : Related b v m) where
     effect = refl;
     linked = r .linked;
     messages = same-messages b v m r;
-    events = subst (λ reads. Logs reads (withoutOldest (v .queue)) (b .events)) (sym (reads-more (b .heard) (oldestOf (v .queue .events)))) (logged-read (r .events));
-    last = r .last ∙ sym (same-count (LINKED 0) (b .heard) _ (oldest-gives (v .queue .events)));
+    events = subst (λ reads. SameEvents reads (withoutOldest (v .queue)) (b .events)) (sym (reads-more (b .heard) (oldestOf (v .queue .events)))) (read-one (r .events));
+    last = r .last ∙ sym (same-count saysLinked (b .heard) _ (oldest-gives (v .queue .events)));
     registers = λ k. r .registers k ∙ sym (same-register (b .heard) _ (oldest-counts (v .queue .events)) k);
     memory = refl;
   }

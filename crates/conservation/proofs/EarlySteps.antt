@@ -32,15 +32,15 @@ use Rattle.portals.specs.Outcome.{Outcome, refusal}
 use Rattle.portals.specs.EarlyMessages.{takenBy, appendBy, appended, appendTests, append, unlinkTests, unlinked, unlink, searched, searchTests, search}
 use Rattle.portals.specs.Calls as calls
 use Rattle.portals.proofs.GuardLaws.{guard-cases, unless-map}
-use Rattle.conservation.specs.Steps.{called, count, eventIn, eventsRead}
-use Rattle.conservation.specs.Ledger.{Ledger, link, taken, remove, look, delete, without, headerAt, messageAt, searchWalk, appendWalk, walkEvents, logAll, headersAt}
+use Rattle.conservation.specs.Steps.{called, count, eventIn, eventsRead, saysLinked}
+use Rattle.conservation.specs.Ledger.{Ledger, link, taken, remove, look, delete, without, headerAt, messageAt, searchWalk, appendWalk, walkEvents, addAll, headersAt}
 use Rattle.conservation.specs.Answering.{slotsTaken, expectedOfAppend, AnswerRight}
-use Rattle.conservation.proofs.Relations.{Home, Logs, Related}
+use Rattle.conservation.proofs.Relations.{Home, SameEvents, Related}
 use Rattle.conservation.proofs.AllLaws.{all-part, all-imply, all-both}
 use Rattle.conservation.proofs.NumberLaws.{Parted, none-found, walk-parted, walk-map, parted-left, parted-found}
 use Rattle.conservation.proofs.SlotLaws.{slots-taken}
 use Rattle.conservation.proofs.EntryLaws.{kept-linked, linked-last, unlinked-linked, home-part, home-last}
-use Rattle.conservation.proofs.EventLaws.{logged-all, overflow-events, no-match-events, search-events}
+use Rattle.conservation.proofs.EventLaws.{added-all, overflow-events, no-match-events, search-events}
 use Rattle.conservation.proofs.MessageLaws.{Messages, Homes, messages-parted, handles-given}
 use Rattle.conservation.proofs.StepLaws.{Kept, same-count, one-more, same-register, messages, same-messages, same-read, refused-kept}
 
@@ -68,7 +68,7 @@ module _ (b : Ledger) (v : View) (m : List ℕ) (r : Related b v m) where
             (λ n h. home-part (part-withoutFirst (isLinkedAs handle) (v .entries)) h) (r .homes))
             (r .headers);
         events = same-read b v m r DONE (v .queue) (b .events) refl (r .events);
-        last = r .last ∙ sym (same-count (LINKED 0) (b .heard) DONE refl);
+        last = r .last ∙ sym (same-count saysLinked (b .heard) DONE refl);
         registers = λ k. r .registers k ∙ sym (same-register (b .heard) DONE refl k);
         memory = refl;
       }
@@ -156,7 +156,7 @@ module _ (b : Ledger) (v : View) (m : List ℕ) (r : Related b v m) where
         (handles-given (messages b v m r) (v .size) (v .last) (sound-facts v (r .isSound) .entries) (sound-facts v (r .isSound) .headers))))
         refl
 
-    -- the events of moment out
+    -- the events of compared out
     handed-events : (owner : ℕ) → HandOut.handOutEvents e owner (v .entries) (headersAt b (w .left)) (headersAt b (w .found)) ≡ walkEvents b e owner w
     handed-events owner =
         overflow-events b (v .entries) e owner (w .found) (w .left) (sound-facts v (r .isSound) .handles) (r .linked)
@@ -165,11 +165,11 @@ module _ (b : Ledger) (v : View) (m : List ℕ) (r : Related b v m) where
         (subst (λ hs. every (headerSound (v .entries)) hs ≡ true) (r .headers) (sound-facts v (r .isSound) .headers)))
 
   -- events are issued, and the answer reads none
-  pub issued-logged : (a : Answer) (issued ours : List Issued) → eventIn a ≡ [] → issued ≡ ours
-      → Logs (eventsRead (b .heard ++ (a ∷ []))) (postAll (v .queue) issued) (logAll (length (eventsRead (b .heard))) (b .events) ours)
-  issued-logged a issued ours e same =
-      subst (λ is. Logs (eventsRead (b .heard ++ (a ∷ []))) (postAll (v .queue) is) (logAll (length (eventsRead (b .heard))) (b .events) ours)) (sym same)
-      (same-read b v m r a (postAll (v .queue) ours) _ e (logged-all (r .events) ours))
+  pub issued-added : (a : Answer) (issued ours : List Issued) → eventIn a ≡ [] → issued ≡ ours
+      → SameEvents (eventsRead (b .heard ++ (a ∷ []))) (postAll (v .queue) issued) (addAll (length (eventsRead (b .heard))) (b .events) ours)
+  issued-added a issued ours e same =
+      subst (λ is. SameEvents (eventsRead (b .heard ++ (a ∷ []))) (postAll (v .queue) is) (addAll (length (eventsRead (b .heard))) (b .events) ours)) (sym same)
+      (same-read b v m r a (postAll (v .queue) ours) _ e (added-all (r .events) ours))
 
   -- ## Append
 
@@ -187,8 +187,8 @@ module _ (b : Ledger) (v : View) (m : List ℕ) (r : Related b v m) where
           effect = refl;
           linked = kept-linked (headersAt b (w .left)) (v .entries) ∙ r .linked;
           messages = messages-left e w p;
-          events = issued-logged TAKEN _ _ refl (handed-events e w p 0);
-          last = r .last ∙ sym (same-count (LINKED 0) (b .heard) TAKEN refl);
+          events = issued-added TAKEN _ _ refl (handed-events e w p 0);
+          last = r .last ∙ sym (same-count saysLinked (b .heard) TAKEN refl);
           registers = λ k. r .registers k ∙ sym (same-register (b .heard) TAKEN refl k);
           memory = refl;
         }
@@ -201,8 +201,8 @@ module _ (b : Ledger) (v : View) (m : List ℕ) (r : Related b v m) where
           effect = refl;
           linked = linked-last (slots e w p) e h ∙ ap (λ l. l ++ (newEntry e h ∷ [])) (kept-linked (headersAt b (w .left)) (v .entries) ∙ r .linked);
           messages = messages-linked e w p h (omega arith);
-          events = issued-logged (LINKED h) _ _ refl (ap (λ is. is ++ (linkEvent e h ∷ [])) (handed-events e w p h));
-          last = ap (λ n. n + 1) (r .last) ∙ sym (one-more (LINKED 0) (b .heard) (LINKED h) refl);
+          events = issued-added (LINKED h) _ _ refl (ap (λ is. is ++ (linkEvent e h ∷ [])) (handed-events e w p h));
+          last = ap (λ n. n + 1) (r .last) ∙ sym (one-more saysLinked (b .heard) (LINKED h) refl);
           registers = λ k. r .registers k ∙ sym (same-register (b .heard) (LINKED h) refl k);
           memory = refl;
         }
@@ -212,9 +212,9 @@ module _ (b : Ledger) (v : View) (m : List ℕ) (r : Related b v m) where
     appended-answer =
         ap (λ w. appended v e w .answer) (append-walk e)
         ∙ by (foundOnce e (shown (appendWalk b e)))
-        ∙ ap (λ x. cond x TAKEN (LINKED (count (LINKED 0) (b .heard) + 1))) (once-found e (appendWalk b e))
+        ∙ ap (λ x. cond x TAKEN (LINKED (count saysLinked (b .heard) + 1))) (once-found e (appendWalk b e))
       where
-        by : (taken : Bool) → appendBy taken v e (shown (appendWalk b e)) .answer ≡ cond taken TAKEN (LINKED (count (LINKED 0) (b .heard) + 1))
+        by : (taken : Bool) → appendBy taken v e (shown (appendWalk b e)) .answer ≡ cond taken TAKEN (LINKED (count saysLinked (b .heard) + 1))
         by true = refl
         by false = ap (λ n. LINKED (n + 1)) (r .last)
 
@@ -260,8 +260,8 @@ module _ (b : Ledger) (v : View) (m : List ℕ) (r : Related b v m) where
           effect = rw f refl;
           linked = r .linked;
           messages = same-messages b v m r;
-          events = issued-logged a _ _ refl (λ i. search-events b e (w .found) i ++ no-match-events b e w i);
-          last = r .last ∙ sym (same-count (LINKED 0) (b .heard) a refl);
+          events = issued-added a _ _ refl (λ i. search-events b e (w .found) i ++ no-match-events b e w i);
+          last = r .last ∙ sym (same-count saysLinked (b .heard) a refl);
           registers = λ k. r .registers k ∙ sym (same-register (b .heard) a refl k);
           memory = refl;
         }
@@ -274,8 +274,8 @@ module _ (b : Ledger) (v : View) (m : List ℕ) (r : Related b v m) where
           effect = rw f refl;
           linked = kept-linked (headersAt b (w .left)) (v .entries) ∙ r .linked;
           messages = messages-left e w p;
-          events = issued-logged a _ _ refl (λ i. handed-events e w p 0 i ++ no-match-events b e w i);
-          last = r .last ∙ sym (same-count (LINKED 0) (b .heard) a refl);
+          events = issued-added a _ _ refl (λ i. handed-events e w p 0 i ++ no-match-events b e w i);
+          last = r .last ∙ sym (same-count saysLinked (b .heard) a refl);
           registers = λ k. r .registers k ∙ sym (same-register (b .heard) a refl k);
           memory = refl;
         }

@@ -6,7 +6,7 @@ use Prim.Native.Nat.{ℕ, _+_, _-_}
 use native.Mathlib.Omega.{arith}
 use borrow.Author.Tests.{not-true, eqb-true, eqb-false, ne-eqb, eq-eqb}
 use lib.Dec.{eqb, ltb}
-use lib.ListN.{length, drop, length-append}
+use lib.ListN.{length, drop}
 use lib.Seq.{drop-append-seam}
 use Rattle.matching.specs.Request.{unlinks}
 use Rattle.matching.specs.declared.layout.Entry.{Entry}
@@ -31,65 +31,58 @@ use Rattle.early.specs.HandOut.{freedBy}
 use Rattle.early.specs.Handling as handling
 use Rattle.portals.specs.Answers.{Answer}
 use Rattle.portals.specs.EventRead.{oldestOf}
-use Rattle.conservation.specs.Steps.{says, count, eventIn, eventsRead}
-use Rattle.conservation.specs.Ledger.{Message, Logged, EventLog, Ledger, Effect, nothing, delivery, link, taken, remove, look, delete, messageAt, headerAt, autoFreeEvents, overflowEvents, walkEvents, noMatchEvents, issuedBy, queuedAs, queuedOf, logBy, logEvent, logAll, appendWalk, searchWalk, headersAt}
+use Rattle.conservation.specs.Steps.{count, eventIn, eventsRead}
+use Rattle.conservation.specs.Ledger.{stillQueued, Message, Fated, Fates, Ledger, Effect, nothing, delivery, link, taken, remove, look, delete, messageAt, headerAt, autoFreeEvents, overflowEvents, walkEvents, noMatchEvents, issuedBy, queuedAs, queuedOf, addBy, addEvent, addAll, appendWalk, searchWalk, headersAt}
 use Rattle.conservation.specs.Conserved.{All, isOverflow, handOutsShown}
-use Rattle.conservation.proofs.Relations.{Home, Logs}
+use Rattle.conservation.proofs.Relations.{Home, SameEvents}
 
 -- ## The queue
 
-queued-append : (ts us : List Logged) → queuedOf (ts ++ us) ≡ queuedOf ts ++ queuedOf us
+queued-append : (ts us : List Fated) → queuedOf (ts ++ us) ≡ queuedOf ts ++ queuedOf us
 queued-append [] us = refl
 queued-append (t ∷ ts) us =
     let first = queuedAs (t .issued .event) (t .fate) in
     ap (λ (l : List Event). first ++ l) (queued-append ts us) ∙ sym (append-assoc first (queuedOf ts) (queuedOf us))
 
-module _ {reads : List Event} {q : EventQueue} {s : EventLog} (t : Logs reads q s) where
-  -- an event is logged; `new`: what of it is queued
-  logged-more : (n : Logged) (new : List Event) → queuedOf (n ∷ []) ≡ new → reads ++ (q .events ++ new) ≡ queuedOf (s .logged ++ (n ∷ []))
-  logged-more n new e =
-      sym (append-assoc reads (q .events) new)
-      ∙ ap (λ (l : List Event). l ++ new) (t .events)
-      ∙ ap (λ (l : List Event). queuedOf (s .logged) ++ l) (sym e)
-      ∙ sym (queued-append (s .logged) (n ∷ []))
-
-  -- none of it is
-  logged-unqueued : (n : Logged) → queuedOf (n ∷ []) ≡ [] → reads ++ q .events ≡ queuedOf (s .logged ++ (n ∷ []))
-  logged-unqueued n e = ap (λ (l : List Event). reads ++ l) (sym (append-nil (q .events))) ∙ logged-more n [] e
-
-  logged-by : (off room : Bool) (i : Issued) → Logs reads (postBy off room q (i .event)) (logBy off room s i)
-  logged-by true room i = record { events = logged-unqueued _ refl; mark = t .mark }
-  logged-by false true i = record {
-    events = logged-more _ _ (ap (λ (n : ℕ). withGap (i .event) (gapOf n) ∷ []) (sym (t .mark)));
-    mark = refl;
-  }
-  logged-by false false i = record { events = logged-unqueued _ refl; mark = refl }
-
-  -- those logged as queued and not read are as many as the queue holds
-  in-queue : length (queuedOf (s .logged)) - length reads ≡ length (q .events)
-  in-queue =
-      let n : length (reads ++ q .events) ≡ length reads + length (q .events) = length-append reads (q .events) in
-      let e : length (reads ++ q .events) ≡ length (queuedOf (s .logged)) = ap length (t .events) in
-      omega arith
-
-  logged-one : (i : Issued) → Logs reads (post q i) (logEvent (length reads) s i)
-  unfolding post logEvent
-  logged-one i = rw in-queue (logged-by (isDisabled i) (ltb (length (q .events)) EVENTS) i)
-
--- the events of a step are posted, and logged
-pub logged-all : {reads : List Event} {q : EventQueue} {s : EventLog} → Logs reads q s → (is : List Issued)
-    → Logs reads (postAll q is) (logAll (length reads) s is)
-logged-all t [] = t
-logged-all t (i ∷ is) = logged-all (logged-one t i) is
-
--- those logged as queued, without those read, are in the queue
-pub unread : {reads : List Event} {q : EventQueue} {s : EventLog} → Logs reads q s → drop (length reads) (queuedOf (s .logged)) ≡ q .events
+-- those that were queued, without those read, are in the queue
+pub unread : {reads : List Event} {q : EventQueue} {s : Fates} → SameEvents reads q s → stillQueued (length reads) s ≡ q .events
 unread {reads} {q} {s} t = ap (drop (length reads)) (sym (t .events)) ∙ drop-append-seam reads (q .events)
 
+module _ {reads : List Event} {q : EventQueue} {s : Fates} (t : SameEvents reads q s) where
+  -- an event is added; `new`: what of it is queued
+  queued-more : (n : Fated) (new : List Event) → queuedOf (n ∷ []) ≡ new → reads ++ (q .events ++ new) ≡ queuedOf (s .all ++ (n ∷ []))
+  queued-more n new e =
+      sym (append-assoc reads (q .events) new)
+      ∙ ap (λ (l : List Event). l ++ new) (t .events)
+      ∙ ap (λ (l : List Event). queuedOf (s .all) ++ l) (sym e)
+      ∙ sym (queued-append (s .all) (n ∷ []))
+
+  -- none of it is
+  unqueued-more : (n : Fated) → queuedOf (n ∷ []) ≡ [] → reads ++ q .events ≡ queuedOf (s .all ++ (n ∷ []))
+  unqueued-more n e = ap (λ (l : List Event). reads ++ l) (sym (append-nil (q .events))) ∙ queued-more n [] e
+
+  added-by : (off room : Bool) (i : Issued) → SameEvents reads (postBy off room q (i .event)) (addBy off room s i)
+  added-by true room i = record { events = unqueued-more _ refl; mark = t .mark }
+  added-by false true i = record {
+    events = queued-more _ _ (ap (λ (n : ℕ). withGap (i .event) (gapOf n) ∷ []) (sym (t .mark)));
+    mark = refl;
+  }
+  added-by false false i = record { events = unqueued-more _ refl; mark = refl }
+
+  added-one : (i : Issued) → SameEvents reads (post q i) (addEvent (length reads) s i)
+  unfolding post addEvent
+  added-one i = rw (unread t) (added-by (isDisabled i) (ltb (length (q .events)) EVENTS) i)
+
+-- the events of a step are posted, and added
+pub added-all : {reads : List Event} {q : EventQueue} {s : Fates} → SameEvents reads q s → (is : List Issued)
+    → SameEvents reads (postAll q is) (addAll (length reads) s is)
+added-all t [] = t
+added-all t (i ∷ is) = added-all (added-one t i) is
+
 -- the oldest is read: it moves from the queue to those read
-pub logged-read : {reads : List Event} {q : EventQueue} {s : EventLog} → Logs reads q s
-    → Logs (reads ++ eventIn (oldestOf (q .events))) (withoutOldest q) s
-logged-read {reads} {q} {s} t = record {
+pub read-one : {reads : List Event} {q : EventQueue} {s : Fates} → SameEvents reads q s
+    → SameEvents (reads ++ eventIn (oldestOf (q .events))) (withoutOldest q) s
+read-one {reads} {q} {s} t = record {
   events =
       append-assoc reads (eventIn (oldestOf (q .events))) (drop 1 (q .events))
       ∙ ap (λ (l : List Event). reads ++ l) (moved (q .events))
@@ -108,10 +101,10 @@ reads-more [] a = append-nil (eventIn a)
 reads-more (x ∷ heard) a =
     ap (λ (l : List Event). eventIn x ++ l) (reads-more heard a) ∙ sym (append-assoc (eventIn x) (eventsRead heard) (eventIn a))
 
-pub count-more : (b : Answer) (heard : List Answer) (a : Answer) → count b (heard ++ (a ∷ [])) ≡ count b heard + cond (says a b) 1 0
-count-more b [] a = omega arith
-count-more b (x ∷ heard) a =
-    let n : count b (heard ++ (a ∷ [])) ≡ count b heard + cond (says a b) 1 0 = count-more b heard a in
+pub count-more : (p : Answer → Bool) (heard : List Answer) (a : Answer) → count p (heard ++ (a ∷ [])) ≡ count p heard + cond (p a) 1 0
+count-more p [] a = omega arith
+count-more p (x ∷ heard) a =
+    let n : count p (heard ++ (a ∷ [])) ≡ count p heard + cond (p a) 1 0 = count-more p heard a in
     omega arith
 
 -- ## Handing out

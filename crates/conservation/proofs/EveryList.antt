@@ -17,7 +17,7 @@ use Rattle.state.specs.declared.layout.Target.{Target}
 use Rattle.state.proofs.ListLaws.{both}
 use Rattle.state.proofs.SoundLaws.{sound-facts}
 use Rattle.portals.specs.Refusals.{goodArguments}
-use Rattle.portals.specs.Answers.{Answer, MADE, refused, isRefused}
+use Rattle.portals.specs.Answers.{Answer, MADE, refused}
 use Rattle.portals.specs.Outcome.{Outcome, unlessUnsound, readUnlessUnsound}
 use Rattle.portals.specs.Making as making
 use Rattle.portals.specs.Request.{put, get}
@@ -38,6 +38,7 @@ use Rattle.conservation.proofs.Relations.{Home, Follows, At, Reaches}
 use Rattle.conservation.proofs.StepLaws.{Kept, kept-follows}
 use Rattle.conservation.proofs.CounterSteps as counters
 use Rattle.conservation.proofs.EarlySteps as early
+use Rattle.conservation.proofs.RequestSteps.{Refused}
 use Rattle.conservation.proofs.RequestSteps as requests
 use Rattle.conservation.proofs.SlotLaws.{waits-in-own}
 use Rattle.conservation.proofs.StayLaws.{bytes-stand}
@@ -85,19 +86,17 @@ module _ (b : Ledger) (t : Target) (m : List ℕ) (h : At b t m) where
         follows = subst (λ (o : Outcome Seen (List ℕ)). Follows b m (line m c (o .answer)) (call v .state) (o .buffer)) (sym e) f;
       }
 
-  -- lent another memory, and refused for it
-  by-another : (c : Call) (call : View → Outcome View (List ℕ)) (lent given left : List ℕ) (answer : Answer) (t′ : Target) → Met call t given answer t′ left
-      → answer ≡ refused Refusal.BadMemory
-      → (isRefused (call v .answer) ≡ true → call v .state ≡ v)
-      → (call v .answer ≡ refused Refusal.BadMemory → Follows b m (lineElsewhere m c lent answer) v m)
-      → Reaches b m (lineElsewhere m c lent answer) t′ m
-  by-another c call lent given left answer t′ p bad same f =
+  -- lent a memory of another length, and refused for it
+  by-another : (call : View → Outcome View (List ℕ)) (lent given left : List ℕ) (answer : Answer) (t′ : Target) → Met call t given answer t′ left
+      → Refused v (call v)
+      → ((answer : Answer) → answer ≡ refused Refusal.BadMemory → Follows b m (lineElsewhere m lent answer) v m)
+      → Reaches b m (lineElsewhere m lent answer) t′ m
+  by-another call lent given left answer t′ p bad f =
       let e = p .outcome ∙ ap (λ (s : Seen). unlessUnsound call s given) (h .is) in
-      let is : call v .answer ≡ refused Refusal.BadMemory = sym (ap (λ (o : Outcome Seen (List ℕ)). o .answer) e) ∙ bad in
       record {
         view = v;
-        is = ap (λ (o : Outcome Seen (List ℕ)). o .state) e ∙ ap sound (same (ap isRefused is));
-        follows = f is;
+        is = ap (λ (o : Outcome Seen (List ℕ)). o .state) e ∙ ap sound (bad .state);
+        follows = f answer (ap (λ (o : Outcome Seen (List ℕ)). o .answer) e ∙ bad .answer);
       }
 
 -- one clause for each kind of step
@@ -115,19 +114,17 @@ step b t t′ m m′ l h (runs.put {q = q} {payload = payload} r p) =
     let s = requests.put-served b (h .view) m (h .related) q payload in
     by-put b t m h (calls.put q payload) (λ v. put v m q payload) m′ _ t′ p
     (kept-follows b (h .view) m (h .related) (calls.put q payload) _ (s .size) (requests.put-answered b (h .view) m (h .related) q payload) (s .kept))
-step b t t′ m m′ l h (runs.putElsewhere lent {lent′} {q} {payload} r p e) =
-    by-another b t m h (calls.put q payload) (λ v. put v lent q payload) lent lent lent′ _ t′ p e
-    (call-laws .refused (h .view) lent (calls.put q payload))
-    (λ is. requests.elsewhere-follows b (h .view) m (h .related) q (calls.put q payload) lent _ e
-    (requests.put-another b (h .view) m (h .related) q payload lent is))
+step b t t′ m m′ l h (runs.putElsewhere lent {lent′} q payload r p e) =
+    by-another b t m h (λ v. put v lent q payload) lent lent lent′ _ t′ p
+    (requests.put-another b (h .view) m (h .related) q payload lent e)
+    (requests.elsewhere-follows b (h .view) m (h .related) q lent)
 step b t t′ m m′ l h (runs.get {q = q} {reply = reply} {reply′ = reply′} r p) =
     by-call b t m h (calls.get q reply) (λ v. get v m q reply) reply reply′ _ t′ p
     (stays b t m h (calls.get q reply) (requests.get-answered b (h .view) m (h .related) q reply) (requests.get-served b (h .view) m (h .related) q reply .kept))
-step b t t′ m m′ l h (runs.getElsewhere lent {q = q} {reply = reply} {reply′ = reply′} r p e) =
-    by-another b t m h (calls.get q reply) (λ v. get v lent q reply) lent reply reply′ _ t′ p e
-    (call-laws .refused (h .view) lent (calls.get q reply))
-    (λ is. requests.elsewhere-follows b (h .view) m (h .related) q (calls.get q reply) lent _ e
-    (requests.get-another b (h .view) m (h .related) q reply lent is))
+step b t t′ m m′ l h (runs.getElsewhere lent q {reply} {reply′} r p e) =
+    by-another b t m h (λ v. get v lent q reply) lent reply reply′ _ t′ p
+    (requests.get-another b (h .view) m (h .related) q reply lent e)
+    (requests.elsewhere-follows b (h .view) m (h .related) q lent)
 step b t t′ m m′ l h (runs.readEvent r p) =
     by-call b t m h calls.readEvent _ tt tt _ t′ p
     (stays b t m h calls.readEvent (counters.read-event-answered b (h .view) m (h .related)) (counters.read-event-kept b (h .view) m (h .related)))
@@ -231,7 +228,7 @@ module _ (b : Ledger) (t : Target) (m : List ℕ) (h : At b t m) where
           let f = both (headerSound (h .view .entries) (headerAt (b .arrivals) n)) (every (headerSound (h .view .entries)) (map (headerAt (b .arrivals)) ns)) e in
           (waits-in-own (h .view .entries) (messageAt (b .arrivals) n) (sound-facts (h .view) (h .related .isSound) .handles) (f .0) (p .0), go ns (p .1) (f .1))
 
-  agrees : Agrees b t
+  agrees : Agrees b t m
   agrees =
       let i = seen-is t (h .view) (h .is) in
       let r = h .related in
@@ -239,6 +236,7 @@ module _ (b : Ledger) (t : Target) (m : List ℕ) (h : At b t m) where
       let events = ap (λ (v : View). eventsRead (b .heard) ++ v .queue .events) (i .1) ∙ r .events .events in
       record {
         sound = i .0;
+        size = r .memory ∙ sym (ap (λ (v : View). v .size) (i .1));
         waiting = λ portal. ap (select (atPortal portal)) headers;
         headers = headers;
         homes = subst (λ (v : View). All (λ n. WaitsIn (v .entries) (messageAt (b .arrivals) n)) (b .waiting)) (sym (i .1)) homes;

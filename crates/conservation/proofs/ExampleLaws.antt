@@ -29,7 +29,7 @@ use Rattle.portals.specs.Calls.{append, put}
 use Rattle.portals.specs.declared.answers.NewDone.{NewDone}
 use Rattle.portals.specs.declared.answers.AppendDone.{AppendDone}
 use Rattle.portals.specs.declared.answers.RequestDone.{RequestDone}
-use Rattle.conservation.specs.Ledger.{chosen, logEvent}
+use Rattle.conservation.specs.Ledger.{chosen, addEvent}
 use Rattle.conservation.specs.Runs.{line, Stepped, Ran}
 use Rattle.conservation.specs.Runs as runs
 use Rattle.conservation.specs.Bytes.{ledgerOf, Stay, Undisturbed, managesLocal}
@@ -65,11 +65,11 @@ taken-answer = refl
 
 -- the message's stay, from the ledger alone
 stays : Stay log abc
-unfolding chosen logEvent matches bitsAgree allowsLength takesHeaders message accepted available offsetUsed place localAfter unlinks fits verdictOn
-stays = record { earlier = before; arrival = arrival; between = between; moment = taking; later = []; split = refl; arrives = refl }
+unfolding chosen addEvent matches bitsAgree allowsLength takesHeaders message accepted available offsetUsed place localAfter unlinks fits verdictOn
+stays = record { earlier = before; arrival = arrival; between = between; compared = taking; later = []; split = refl; arrives = refl }
 
 undisturbed-by : Undisturbed abc (ledgerOf (before ++ (arrival ∷ []))) between
-unfolding chosen logEvent matches bitsAgree allowsLength takesHeaders message accepted available offsetUsed place localAfter unlinks fits verdictOn
+unfolding chosen addEvent matches bitsAgree allowsLength takesHeaders message accepted available offsetUsed place localAfter unlinks fits verdictOn
 undisturbed-by = (refl, refl, refl)
 
 manages : managesLocal abc ≡ true
@@ -77,7 +77,7 @@ unfolding chosen matches bitsAgree allowsLength takesHeaders available offsetUse
 manages = refl
 
 handed-out : ledgerOf log .handed ≡ 0 ∷ []
-unfolding chosen logEvent matches bitsAgree allowsLength takesHeaders message accepted available offsetUsed place localAfter unlinks fits verdictOn
+unfolding chosen addEvent matches bitsAgree allowsLength takesHeaders message accepted available offsetUsed place localAfter unlinks fits verdictOn
 handed-out = refl
 
 -- ## The calls

@@ -13,9 +13,8 @@ use Rattle.state.specs.Registers.{registerAt}
 use Rattle.state.specs.declared.layout.HeldEntry.{HeldEntry}
 use Rattle.state.specs.declared.layout.Event.{Event}
 use Rattle.state.specs.declared.layout.Target.{Target}
-use Rattle.portals.specs.Answers.{LINKED}
-use Rattle.conservation.specs.Steps.{Step, called, elsewhere, wrote, count, eventsRead}
-use Rattle.conservation.specs.Ledger.{Message, EventLog, Ledger, Effect, nothing, delivery, link, taken, remove, look, delete, callEffect, hear, messageAt, headersAt, queuedOf}
+use Rattle.conservation.specs.Steps.{Step, called, elsewhere, wrote, count, eventsRead, saysLinked}
+use Rattle.conservation.specs.Ledger.{Message, Fates, Ledger, Effect, nothing, delivery, link, taken, remove, look, delete, callEffect, hear, messageAt, headersAt, queuedOf}
 use Rattle.conservation.specs.Runs.{Line}
 use Rattle.conservation.specs.Answering.{registerOf}
 use Rattle.conservation.specs.Conserved.{All, Right, times, ascends}
@@ -35,8 +34,8 @@ pub record Numbers (waiting handed : List ℕ) (total : ℕ) : Type 0 where
   pub once : (n : ℕ) → times n waiting + times n handed ≡ cond (ltb n total) 1 0
 
 -- the events read, the queue, and what the ledger logs of events
-pub record Logs (reads : List Event) (q : EventQueue) (s : EventLog) : Type 0 where
-  pub events : reads ++ q .events ≡ queuedOf (s .logged)
+pub record SameEvents (reads : List Event) (q : EventQueue) (s : Fates) : Type 0 where
+  pub events : reads ++ q .events ≡ queuedOf (s .all)
   pub mark : q .lost ≡ s .mark
 
 -- ## The whole
@@ -48,8 +47,8 @@ pub record Related (b : Ledger) (v : View) (m : List ℕ) : Type 0 where
   pub headers : v .headers ≡ headersAt b (b .waiting)
   pub homes : All (λ n. Home (v .entries) (messageAt (b .arrivals) n)) (b .waiting)
   pub numbers : Numbers (b .waiting) (b .handed) (length (b .arrivals))
-  pub events : Logs (eventsRead (b .heard)) (v .queue) (b .events)
-  pub last : v .last ≡ count (LINKED 0) (b .heard)
+  pub events : SameEvents (eventsRead (b .heard)) (v .queue) (b .events)
+  pub last : v .last ≡ count saysLinked (b .heard)
   pub registers : (k : ℕ) → registerAt (v .registers) k ≡ registerOf (b .heard) k
 
 -- ## A step
@@ -67,7 +66,7 @@ memoryBy m (delete e) = m
 
 abbrev pub Leaves : Ledger → List ℕ → Step → List ℕ → Type 0
 Leaves b m (called c answer) m′ = m′ ≡ memoryBy m (callEffect (b .linked) c answer)
-Leaves b m (elsewhere c n answer) m′ = m′ ≡ m
+Leaves b m (elsewhere n answer) m′ = m′ ≡ m
 Leaves b m (wrote before after) m′ = (before ≡ m) × (after ≡ m′)
 
 pub record Follows (b : Ledger) (m : List ℕ) (l : Line) (v′ : View) (m′ : List ℕ) : Type 0 where

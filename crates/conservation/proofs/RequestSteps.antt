@@ -1,6 +1,6 @@
 -- Put and get: the ledger chooses the entry that the target chooses, and makes of it what the target makes.
 use mathlib.Core.Path.{_≡_, refl, ap, sym, _∙_, subst}
-use mathlib.Core.Bool.{Bool, true, false, _||_, not, cond, false≢true}
+use mathlib.Core.Bool.{Bool, true, false, _||_, not, cond}
 use mathlib.Core.List.{List, [], _∷_, _++_, append-nil}
 use mathlib.Core.Option.{Option, none, some}
 use Prim.Native.Nat.{ℕ, zero, suc, _+_, _-_, _<_, _≤_, _%_, _^_}
@@ -9,7 +9,6 @@ use native.Mathlib.Omega.{arith}
 use borrow.Author.Tests.{eq-eqb}
 use lib.Dec.{eqb, ltb}
 use lib.ListN.{length, take, length-map, length-append, length-take, length-drop, take-append-drop}
-use Rattle.matching.specs.Refusals.{noneBad}
 use Rattle.matching.specs.Request.{badRequestArgument, arrivalOf, offsetUsed, available, accepted, place, verdictOn, ackAsked, ackGiven}
 use Rattle.matching.specs.EarlyMessages.{takesHeaders}
 use Rattle.matching.specs.declared.layout.Request.{Request}
@@ -36,14 +35,13 @@ use Rattle.requests.specs.declared.choice.Choice.{Choice}
 use Rattle.requests.specs.declared.decision.Decision.{Decision}
 use Rattle.requests.specs.declared.decision.Decision.the-variants as Decision
 use Rattle.portals.specs.Refusals.{goodArguments, unlessRefused}
-use Rattle.portals.specs.Answers.{Answer, LINKED, PRIORITY, OVERFLOW, DROPPED, PERM, OP, refused, isRefused}
+use Rattle.portals.specs.Answers.{Answer, PRIORITY, OVERFLOW, DROPPED, PERM, OP, refused}
+use Rattle.portals.specs.Outcome.{Outcome}
 use Rattle.portals.specs.Request.{answerBy, requestTests, decided, put, get}
 use Rattle.portals.specs.Calls.{Call}
 use Rattle.portals.specs.Calls as calls
 use Rattle.portals.proofs.GuardLaws.{guard-cases, unless-map}
-use Rattle.portals.proofs.RequestCalls.{delivery-answers}
-use Rattle.requests.proofs.RequestKept.{decide-cases}
-use Rattle.conservation.specs.Steps.{called, elsewhere, says, count, eventIn}
+use Rattle.conservation.specs.Steps.{called, elsewhere, count, eventIn, saysLinked, saysDropped, saysPerm, saysOp, saysPriority, saysOverflow}
 use Rattle.conservation.specs.Ledger.{Ledger, nothing, delivery, chosen, deliveryTo, requestEffect, callEffect, linkedAfter, messageOf, messageAt, hear}
 use Rattle.conservation.specs.Runs.{lineElsewhere}
 use Rattle.conservation.specs.Answering.{answerOf, answerOn, expectedOfRequest, registerOf, AnswerRight}
@@ -55,7 +53,7 @@ use Rattle.conservation.proofs.EntryLaws.{ChosenAs, priority, overflow,
 use Rattle.conservation.proofs.EntryLaws as entries
 use Rattle.conservation.proofs.MessageLaws.{Messages, Homes, messages-parted, messages-arrive}
 use Rattle.conservation.proofs.StepLaws.{Kept, same-count, one-more, same-register, messages, same-messages, same-read, refused-kept}
-use Rattle.conservation.proofs.EarlySteps.{issued-logged}
+use Rattle.conservation.proofs.EarlySteps.{issued-added}
 
 -- ## The bytes
 
@@ -75,38 +73,38 @@ place-fits x a = omega arith
 
 module _ (rs : Registers) (heard : List Answer) (same : (k : ℕ) → registerAt rs k ≡ registerOf heard k) where
   -- the register of an answer's kind grows by one, the others stay
-  grows : (b a : Answer) (n : ℕ) → n ≡ count b heard % 2 ^ 64 → says a b ≡ true → (n + 1) % 2 ^ 64 ≡ count b (heard ++ (a ∷ [])) % 2 ^ 64
-  grows b a n e s = rw (one-more b heard a s, e) (omega arith)
+  grows : (p : Answer → Bool) (a : Answer) (n : ℕ) → n ≡ count p heard % 2 ^ 64 → p a ≡ true → (n + 1) % 2 ^ 64 ≡ count p (heard ++ (a ∷ [])) % 2 ^ 64
+  grows p a n e s = rw (one-more p heard a s, e) (omega arith)
 
-  stays : (b a : Answer) (n : ℕ) → n ≡ count b heard % 2 ^ 64 → says a b ≡ false → n ≡ count b (heard ++ (a ∷ [])) % 2 ^ 64
-  stays b a n e s = e ∙ ap (λ c. c % 2 ^ 64) (sym (same-count b heard a s))
+  stays : (p : Answer → Bool) (a : Answer) (n : ℕ) → n ≡ count p heard % 2 ^ 64 → p a ≡ false → n ≡ count p (heard ++ (a ∷ [])) % 2 ^ 64
+  stays p a n e s = e ∙ ap (λ c. c % 2 ^ 64) (sym (same-count p heard a s))
 
   dropped-counted : (ack k : ℕ) → registerAt (requestDropped rs) k ≡ registerOf (heard ++ (DROPPED ack ∷ [])) k
   dropped-counted ack k = go (eqb k 0) (eqb k 1)
     where
       go : (x y : Bool) → cond x ((rs .dropped + 1) % 2 ^ 64) (cond y (rs .permission) (rs .operation))
-          ≡ count (cond x (DROPPED 0) (cond y (PERM 0) (OP 0))) (heard ++ (DROPPED ack ∷ [])) % 2 ^ 64
-      go true y = grows (DROPPED 0) (DROPPED ack) (rs .dropped) (same 0) refl
-      go false true = stays (PERM 0) (DROPPED ack) (rs .permission) (same 1) refl
-      go false false = stays (OP 0) (DROPPED ack) (rs .operation) (same 2) refl
+          ≡ count (cond x saysDropped (cond y saysPerm saysOp)) (heard ++ (DROPPED ack ∷ [])) % 2 ^ 64
+      go true y = grows saysDropped (DROPPED ack) (rs .dropped) (same 0) refl
+      go false true = stays saysPerm (DROPPED ack) (rs .permission) (same 1) refl
+      go false false = stays saysOp (DROPPED ack) (rs .operation) (same 2) refl
 
   permission-counted : (ack k : ℕ) → registerAt (permissionViolated rs) k ≡ registerOf (heard ++ (PERM ack ∷ [])) k
   permission-counted ack k = go (eqb k 0) (eqb k 1)
     where
       go : (x y : Bool) → cond x (rs .dropped) (cond y ((rs .permission + 1) % 2 ^ 64) (rs .operation))
-          ≡ count (cond x (DROPPED 0) (cond y (PERM 0) (OP 0))) (heard ++ (PERM ack ∷ [])) % 2 ^ 64
-      go true y = stays (DROPPED 0) (PERM ack) (rs .dropped) (same 0) refl
-      go false true = grows (PERM 0) (PERM ack) (rs .permission) (same 1) refl
-      go false false = stays (OP 0) (PERM ack) (rs .operation) (same 2) refl
+          ≡ count (cond x saysDropped (cond y saysPerm saysOp)) (heard ++ (PERM ack ∷ [])) % 2 ^ 64
+      go true y = stays saysDropped (PERM ack) (rs .dropped) (same 0) refl
+      go false true = grows saysPerm (PERM ack) (rs .permission) (same 1) refl
+      go false false = stays saysOp (PERM ack) (rs .operation) (same 2) refl
 
   operation-counted : (ack k : ℕ) → registerAt (operationViolated rs) k ≡ registerOf (heard ++ (OP ack ∷ [])) k
   operation-counted ack k = go (eqb k 0) (eqb k 1)
     where
       go : (x y : Bool) → cond x (rs .dropped) (cond y (rs .permission) ((rs .operation + 1) % 2 ^ 64))
-          ≡ count (cond x (DROPPED 0) (cond y (PERM 0) (OP 0))) (heard ++ (OP ack ∷ [])) % 2 ^ 64
-      go true y = stays (DROPPED 0) (OP ack) (rs .dropped) (same 0) refl
-      go false true = stays (PERM 0) (OP ack) (rs .permission) (same 1) refl
-      go false false = grows (OP 0) (OP ack) (rs .operation) (same 2) refl
+          ≡ count (cond x saysDropped (cond y saysPerm saysOp)) (heard ++ (OP ack ∷ [])) % 2 ^ 64
+      go true y = stays saysDropped (OP ack) (rs .dropped) (same 0) refl
+      go false true = stays saysPerm (OP ack) (rs .permission) (same 1) refl
+      go false false = grows saysOp (OP ack) (rs .operation) (same 2) refl
 
 -- ## A request
 
@@ -137,7 +135,7 @@ module _ (b : Ledger) (v : View) (m : List ℕ) (r : Related b v m) (c : Call) (
   -- DROPPED, PERM and OP: only a register moves
   denied : (d : Decision) (answer : Answer) (rs : Registers) → after d ≡ m
       → eventIn answer ≡ []
-      → says answer (LINKED 0) ≡ false
+      → saysLinked answer ≡ false
       → requestEffect (b .linked) (q .portal) a payload answer ≡ nothing
       → ((k : ℕ) → registerAt rs k ≡ registerOf (b .heard ++ (answer ∷ [])) k)
       → answer ≡ expectedOfRequest b q a
@@ -150,7 +148,7 @@ module _ (b : Ledger) (v : View) (m : List ℕ) (r : Related b v m) (c : Call) (
         linked = r .linked;
         messages = same-messages b v m r;
         events = same-read b v m r answer (v .queue) (b .events) event (r .events);
-        last = r .last ∙ sym (same-count (LINKED 0) (b .heard) answer handle);
+        last = r .last ∙ sym (same-count saysLinked (b .heard) answer handle);
         registers = counted;
         memory = untouched;
       };
@@ -219,9 +217,9 @@ module _ (b : Ledger) (v : View) (m : List ℕ) (r : Related b v m) (c : Call) (
 
     -- PRIORITY or OVERFLOW
     delivered-by : (answer : Answer) → eventIn answer ≡ []
-        → says answer (LINKED 0) ≡ false
-        → any (says answer) (DROPPED 0 ∷ PERM 0 ∷ OP 0 ∷ []) ≡ false
-        → (says answer (PRIORITY 0 0 0) || says answer (OVERFLOW 0 0 0)) ≡ true
+        → saysLinked answer ≡ false
+        → any (λ p. p answer) (saysDropped ∷ saysPerm ∷ saysOp ∷ []) ≡ false
+        → (saysPriority answer || saysOverflow answer) ≡ true
         → answer ≡ expectedOfRequest b q a
         → ServedAs (expectedOfRequest b q a) b m c answer (requestState v (Decision.Deliver (plan (v .entries) (q .portal) a k))) (after (Decision.Deliver (plan (v .entries) (q .portal) a k)))
     delivered-by answer event handle counts said right = record {
@@ -232,8 +230,8 @@ module _ (b : Ledger) (v : View) (m : List ℕ) (r : Related b v m) (c : Call) (
           linked = delivered-linked (v .entries) (q .portal) a payload k (sound-facts v (r .isSound) .handles) inside linked
               ∙ ap (λ l. linkedAfter l (delivery (q .portal) a payload x)) (r .linked);
           messages = delivered-messages (takesHeaders (x .entry)) refl;
-          events = issued-logged b v m r answer (requestEvents (plan (v .entries) (q .portal) a k)) _ event refl;
-          last = r .last ∙ sym (same-count (LINKED 0) (b .heard) answer handle);
+          events = issued-added b v m r answer (requestEvents (plan (v .entries) (q .portal) a k)) _ event refl;
+          last = r .last ∙ sym (same-count saysLinked (b .heard) answer handle);
           registers = λ n. r .registers n ∙ sym (same-register (b .heard) answer counts n);
           memory = written k;
         };
@@ -302,6 +300,11 @@ take-none : (n : ℕ) → _≡_ {A = List ℕ} (take n []) []
 take-none zero = refl
 take-none (suc n) = refl
 
+-- refused for its memory: the state stays
+pub record Refused {B : Type 0} (v : View) (o : Outcome View B) : Type 0 where
+  pub answer : o .answer ≡ refused Refusal.BadMemory
+  pub state : o .state ≡ v
+
 module _ (b : Ledger) (v : View) (m : List ℕ) (r : Related b v m) (q : Request) where
   module _ (payload : List ℕ) where
     pub put-served : Served b m (calls.put q payload) (put v m q payload .answer) (put v m q payload .state) (put v m q payload .buffer)
@@ -336,50 +339,32 @@ module _ (b : Ledger) (v : View) (m : List ℕ) (r : Related b v m) (q : Request
 
   -- ## Lent another memory
 
-  -- no decision on an entry is a refusal
-  decide-answers : (kind : Kind) (requested : ℕ)
-      → isRefused (answerBy kind (q .ack) (decide (v .entries) (v .headers) (q .portal) (arrivalOf q kind requested))) ≡ false
-  decide-answers kind requested =
-      decide-cases (v .entries) (v .headers) (q .portal) (arrivalOf q kind requested) (λ d. isRefused (answerBy kind (q .ack) d) ≡ false) refl refl refl
-      (λ k c. delivery-answers kind (q .ack) (plan (v .entries) (q .portal) (arrivalOf q kind requested) k))
-
-  -- BAD_MEMORY is given only where the length differs
-  another-length : (kind : Kind) (requested lent : ℕ) → answerBy kind (q .ack) (decided v lent q kind requested) ≡ refused Refusal.BadMemory
-      → eqb lent (length m) ≡ false
+  -- a memory of another length is refused, before all else
+  another-memory : (kind : Kind) (requested lent : ℕ) → eqb lent (length m) ≡ false → decided v lent q kind requested ≡ Decision.Refuse Refusal.BadMemory
   unfolding decided
-  another-length kind requested lent e =
-      ap (eqb lent) (r .memory)
-      ∙ by (eqb lent (v .size)) (sym (unless-map (answerBy kind (q .ack)) Decision.Refuse (requestTests v lent q requested) decision) ∙ e)
-    where
-      decision : Decision
-      decision = decide (v .entries) (v .headers) (q .portal) (arrivalOf q kind requested)
+  another-memory kind requested lent e =
+      ap (λ x. unlessRefused Decision.Refuse (record { passed = x; refusal = Refusal.BadMemory } ∷ goodArguments (badRequestArgument q requested) ∷ [])
+      (decide (v .entries) (v .headers) (q .portal) (arrivalOf q kind requested)))
+      (ap (eqb lent) (sym (r .memory)) ∙ e)
 
-      by : (same : Bool) → unlessRefused refused (record { passed = same; refusal = Refusal.BadMemory } ∷ goodArguments (badRequestArgument q requested) ∷ [])
-          (answerBy kind (q .ack) decision) ≡ refused Refusal.BadMemory
-          → same ≡ false
-      by false e = refl
-      by true e =
-          cond-cases (λ a. a ≡ refused Refusal.BadMemory → true ≡ false) (noneBad (badRequestArgument q requested)) (answerBy kind (q .ack) decision)
-          (refused Refusal.ArgInvalid)
-          (λ passed f. absurd (false≢true (sym (decide-answers kind requested) ∙ ap isRefused f)))
-          (λ bad f. let z : _≡_ {A = ℕ} 3 2 = cc in absurd (omega arith))
-          e
-
-  pub put-another : (payload lent : List ℕ) → put v lent q payload .answer ≡ refused Refusal.BadMemory → eqb (length lent) (length m) ≡ false
+  pub put-another : (payload lent : List ℕ) → eqb (length lent) (length m) ≡ false → Refused v (put v lent q payload)
   unfolding put
-  put-another payload lent e = another-length Kind.Put (length payload) (length lent) e
+  put-another payload lent e =
+      let d = another-memory Kind.Put (length payload) (length lent) e in
+      record { answer = ap (answerBy Kind.Put (q .ack)) d; state = ap (requestState v) d }
 
-  pub get-another : (reply lent : List ℕ) → get v lent q reply .answer ≡ refused Refusal.BadMemory → eqb (length lent) (length m) ≡ false
+  pub get-another : (reply lent : List ℕ) → eqb (length lent) (length m) ≡ false → Refused v (get v lent q reply)
   unfolding get
-  get-another reply lent e = another-length Kind.Get (length reply) (length lent) e
+  get-another reply lent e =
+      let d = another-memory Kind.Get (length reply) (length lent) e in
+      record { answer = ap (answerBy Kind.Get (q .ack)) d; state = ap (requestState v) d }
 
-  pub elsewhere-follows : (c : Call) (lent : List ℕ) (answer : Answer) → answer ≡ refused Refusal.BadMemory → eqb (length lent) (length m) ≡ false
-      → Follows b m (lineElsewhere m c lent answer) v m
-  elsewhere-follows c lent answer e other =
+  pub elsewhere-follows : (lent : List ℕ) (answer : Answer) → answer ≡ refused Refusal.BadMemory → Follows b m (lineElsewhere m lent answer) v m
+  elsewhere-follows lent answer e =
       let a = refused Refusal.BadMemory in
       let s = same-messages b v m r in
       record {
-        related = subst (λ a. Related (hear b (elsewhere c (length lent) a)) v m) (sym e) (record {
+        related = subst (λ a. Related (hear b (elsewhere (length lent) a)) v m) (sym e) (record {
           isSound = r .isSound;
           memory = r .memory;
           linked = r .linked;
@@ -387,9 +372,9 @@ module _ (b : Ledger) (v : View) (m : List ℕ) (r : Related b v m) (q : Request
           homes = s .homes;
           numbers = s .numbers;
           events = same-read b v m r a (v .queue) (b .events) refl (r .events);
-          last = r .last ∙ sym (same-count (LINKED 0) (b .heard) a refl);
+          last = r .last ∙ sym (same-count saysLinked (b .heard) a refl);
           registers = λ k. r .registers k ∙ sym (same-register (b .heard) a refl k);
         });
-        right = record { answer = (other, e); overflow = refl };
+        right = record { answer = e; overflow = refl };
         memory = refl;
       }

@@ -29,19 +29,19 @@ use Rattle.requests.specs.Choice.{isCandidate}
 use Rattle.requests.specs.Plan.{message}
 use Rattle.early.specs.Walk.{usesOnce}
 use Rattle.early.specs.Handling.{newEntry}
-use Rattle.portals.specs.Answers.{Answer, LINKED, TAKEN, DONE, SEARCHED, PRIORITY, OVERFLOW, refused}
+use Rattle.portals.specs.Answers.{Answer, LINKED, TAKEN, refused}
 use Rattle.portals.specs.Calls.{Call, append, unlink, search, put, get, readEvent, setCounter, increment, readCounter, readRegister, ready, poll}
 use Rattle.portals.proofs.GuardLaws.{guard-cases}
-use Rattle.conservation.specs.Steps.{Step, called, elsewhere, wrote, word, says, count, handleIn}
+use Rattle.conservation.specs.Steps.{Step, called, elsewhere, wrote, word, count, handleIn, saysLinked, saysSearched, saysPriority, saysOverflow, saysTaken, saysDone}
 use Rattle.conservation.specs.Ledger.{Message, Ledger, Effect, nothing, delivery, link, taken, remove, look, delete, empty, firstOf, otherwise, chosen, deliveryTo, requestEffect, callEffect, effectOf, withLocal, moved, without, linkedAfter, messageOf, arrivalsOf, appendWalk, effectHeard, hear}
 use Rattle.conservation.specs.Runs.{Line, Stepped, Ran}
 use Rattle.conservation.specs.Runs as Runs
 use Rattle.conservation.specs.Answering.{testsOf, expectedOfAppend, AnswerRight}
-use Rattle.conservation.specs.Bytes.{ledgerFrom, ledgerOf, shareByte, apart, RegionKept, Undisturbed, Stay, managesLocal, BytesStand}
+use Rattle.conservation.specs.Bytes.{ledgerFrom, ledgerOf, shareByte, apart, BytesKept, Undisturbed, Stay, managesLocal, BytesStand}
 use Rattle.conservation.specs.Conserved.{All}
 use Rattle.conservation.proofs.AllLaws.{all-last}
 use Rattle.conservation.proofs.Relations.{Related, memoryBy, Leaves, Follows, At, Reaches}
-use Rattle.conservation.proofs.ByteLaws.{inside-same, written-there, written-elsewhere, Inside, written-apart}
+use Rattle.conservation.proofs.ByteLaws.{written-there, written-elsewhere, Inside, written-apart}
 
 -- ## What holds of a message
 
@@ -60,7 +60,7 @@ pub record Stands (x : Message) (b : Ledger) (m : List ℕ) : Type 0 where
   pub own : All (Own x) (b .linked)
   pub managed : managesLocal x ≡ true
   -- its entry's handle was given, so that a new entry has another
-  pub given : x .entry .handle ≤ count (LINKED 0) (b .heard)
+  pub given : x .entry .handle ≤ count saysLinked (b .heard)
 
 -- ## Elements of a list
 
@@ -123,22 +123,22 @@ alone {y} (there {x} {l} i) e =
 -- ## The effect of a call
 
 -- an append that is answered LINKED has the next handle
-next-handle : (size : ℕ) (b : Ledger) (e : Entry) (answer : Answer) → AnswerRight size b (called (append e) answer) → says answer (LINKED 0) ≡ true
-    → handleIn answer ≡ count (LINKED 0) (b .heard) + 1
+next-handle : (size : ℕ) (b : Ledger) (e : Entry) (answer : Answer) → AnswerRight size b (called (append e) answer) → saysLinked answer ≡ true
+    → handleIn answer ≡ count saysLinked (b .heard) + 1
 next-handle size b e answer right linked =
-    guard-cases (λ a. answer ≡ a → handleIn answer ≡ count (LINKED 0) (b .heard) + 1) refused (testsOf size b (append e)) (expectedOfAppend b e)
-    (λ why is. absurd (false≢true (sym (ap (λ (c : Answer). says c (LINKED 0)) is) ∙ linked)))
+    guard-cases (λ a. answer ≡ a → handleIn answer ≡ count saysLinked (b .heard) + 1) refused (testsOf size b (append e)) (expectedOfAppend b e)
+    (λ why is. absurd (false≢true (sym (ap (λ (c : Answer). saysLinked c) is) ∙ linked)))
     (λ passed is. by (usesOnce e && not (isEmpty (appendWalk b e .found))) _ answer is linked)
     right
   where
-    by : (taken : Bool) (n : ℕ) (a : Answer) → a ≡ cond taken TAKEN (LINKED n) → says a (LINKED 0) ≡ true → handleIn a ≡ n
-    by true n a is e = absurd (false≢true (sym (ap (λ (c : Answer). says c (LINKED 0)) is) ∙ e))
+    by : (taken : Bool) (n : ℕ) (a : Answer) → a ≡ cond taken TAKEN (LINKED n) → saysLinked a ≡ true → handleIn a ≡ n
+    by true n a is e = absurd (false≢true (sym (ap (λ (c : Answer). saysLinked c) is) ∙ e))
     by false n a is e = ap handleIn is
 
 -- what holds of each kind of effect that can come of a call holds of its effect: a delivery is to a linked entry, a new entry has the next handle
 module _ (size : ℕ) (b : Ledger) (answer : Answer) (P : Effect → Type 0) (no-effect : P nothing)
     (delivered : (portal : ℕ) (a : Arrival) (payload : List ℕ) (y : HeldEntry) → In y (b .linked) → P (delivery portal a payload y))
-    (linked : (e : Entry) (handle : ℕ) → handle ≡ count (LINKED 0) (b .heard) + 1 → P (link e handle))
+    (linked : (e : Entry) (handle : ℕ) → handle ≡ count saysLinked (b .heard) + 1 → P (link e handle))
     (held : (e : Entry) → P (taken e)) (removed : (handle : ℕ) → P (remove handle))
     (looked : (e : Entry) → P (look e)) (deleted : (e : Entry) → P (delete e)) where
   delivery-cases : (portal : ℕ) (a : Arrival) (payload : List ℕ) (o : Option HeldEntry) → Among (b .linked) o → P (deliveryTo portal a payload o)
@@ -147,19 +147,19 @@ module _ (size : ℕ) (b : Ledger) (answer : Answer) (P : Effect → Type 0) (no
 
   request-cases : (portal : ℕ) (a : Arrival) (payload : List ℕ) → P (requestEffect (b .linked) portal a payload answer)
   request-cases portal a payload =
-      cond-cases P (says answer (PRIORITY 0 0 0) || says answer (OVERFLOW 0 0 0))
+      cond-cases P (saysPriority answer || saysOverflow answer)
       (deliveryTo portal a payload (chosen (b .linked) portal a)) nothing
       (λ e. delivery-cases portal a payload (chosen (b .linked) portal a) (chosen-among (b .linked) portal a))
       (λ e. no-effect)
 
   effect-cases : (c : Call) → AnswerRight size b (called c answer) → P (callEffect (b .linked) c answer)
   effect-cases (append e) right =
-      cond-cases P (says answer (LINKED 0)) (link e (handleIn answer)) (cond (says answer TAKEN) (taken e) nothing)
+      cond-cases P (saysLinked answer) (link e (handleIn answer)) (cond (saysTaken answer) (taken e) nothing)
       (λ is. linked e (handleIn answer) (next-handle size b e answer right is))
-      (λ is. cond-cases P (says answer TAKEN) (taken e) nothing (λ k. held e) (λ k. no-effect))
-  effect-cases (unlink handle) right = cond-cases P (says answer DONE) (remove handle) nothing (λ k. removed handle) (λ k. no-effect)
+      (λ is. cond-cases P (saysTaken answer) (taken e) nothing (λ k. held e) (λ k. no-effect))
+  effect-cases (unlink handle) right = cond-cases P (saysDone answer) (remove handle) nothing (λ k. removed handle) (λ k. no-effect)
   effect-cases (search e) right =
-      cond-cases P (says answer (SEARCHED 0)) (cond (eqb (e .list) 0) (look e) (delete e)) nothing
+      cond-cases P (saysSearched answer) (cond (eqb (e .list) 0) (look e) (delete e)) nothing
       (λ k. cond-cases P (eqb (e .list) 0) (look e) (delete e) (λ k. looked e) (λ k. deleted e))
       (λ k. no-effect)
   effect-cases (put q payload) right = request-cases (q .portal) (arrivalOf q Kind.Put (length payload)) payload
@@ -205,9 +205,9 @@ all-delivered P Q portal a payload y others one l h =
     (λ e. all-moved P Q (y .handle) others (localAfter (y .entry) (y .local) a) one l h)
 
 -- the count of answers of a word does not fall
-count-grows : (a : Answer) (l r : List Answer) → count a l ≤ count a (l ++ r)
-count-grows a [] r = omega arith
-count-grows a (x ∷ l) r = let n = count-grows a l r in omega arith
+count-grows : (p : Answer → Bool) (l r : List Answer) → count p l ≤ count p (l ++ r)
+count-grows p [] r = omega arith
+count-grows p (x ∷ l) r = let n = count-grows p l r in omega arith
 
 -- ## A delivery
 
@@ -246,7 +246,7 @@ module _ (y : HeldEntry) (a : Arrival) where
 record Fitting (b : Ledger) (m : List ℕ) (y : HeldEntry) : Type 0 where
   region : y .entry .start + y .entry .length ≤ length m
   local : y .local ≤ y .entry .length
-  given : y .handle ≤ count (LINKED 0) (b .heard)
+  given : y .handle ≤ count saysLinked (b .heard)
 
 module _ (b : Ledger) (v : View) (m : List ℕ) (r : Related b v m) where
   -- the linked entries are sound, and their handles distinct
@@ -284,8 +284,8 @@ module _ (b : Ledger) (v : View) (m : List ℕ) (r : Related b v m) (portal : �
   unfolding message
   stands-delivered answers k =
       let f = fitting b v m r i in
-      let n : y .handle ≤ count (LINKED 0) (b .heard) = f .given in
-      let c : count (LINKED 0) (b .heard) ≤ count (LINKED 0) (b .heard ++ answers) = count-grows (LINKED 0) (b .heard) answers in
+      let n : y .handle ≤ count saysLinked (b .heard) = f .given in
+      let c : count saysLinked (b .heard) ≤ count saysLinked (b .heard ++ answers) = count-grows saysLinked (b .heard) answers in
       record {
         bytes = written-there m (place (y .entry) (y .local) a) (sent y a payload) (sent-fits b v m r i a payload);
         inside = sent-inside y a payload;
@@ -340,7 +340,7 @@ stands-arrive x b v m m′ v′ l r f e k =
     by : (s : Step) → AnswerRight (length (l .memory)) b s → Leaves b m s m′ → arrivalsOf (effectOf (b .linked) s) ≡ x ∷ [] → Stands x (hear b s) m′
     by (called c answer) right leaves e =
         subst (Stands x (hear b (called c answer))) (sym leaves) (arrives x b v m r k (length (l .memory)) answer c right e)
-    by (elsewhere c n answer) right leaves e = absurd (nil≢cons e)
+    by (elsewhere n answer) right leaves e = absurd (nil≢cons e)
     by (wrote before after) right leaves e = absurd (nil≢cons e)
 
 -- ## It stands after each step that does not disturb it
@@ -417,30 +417,26 @@ module _ (x : Message) (b : Ledger) (v : View) (m : List ℕ) (r : Related b v m
 -- it stands after each step that does not disturb it
 pub stands-on : (x : Message) (b : Ledger) (v v′ : View) (m m′ : List ℕ) (l : Line) → Related b v m → Follows b m l v′ m′
     → apart x b ≡ true
-    → RegionKept x (l .step)
+    → BytesKept x (l .step)
     → Stands x b m
     → Stands x (hear b (l .step)) m′
-stands-on x b v v′ m m′ l r f e kept-region s = by (l .step) (f .right .answer) (f .memory) kept-region
+stands-on x b v v′ m m′ l r f e kept-bytes s = by (l .step) (f .right .answer) (f .memory) kept-bytes
   where
     stood : (d : Effect) (answers : List Answer) → BytesStand m′ x → All (Own x) (linkedAfter (b .linked) d) → Stands x (effectHeard b d answers) m′
     stood d answers bytes own =
         let n = s .given in
-        let more = count-grows (LINKED 0) (b .heard) answers in
+        let more = count-grows saysLinked (b .heard) answers in
         record { bytes = bytes; inside = s .inside; own = own; managed = s .managed; given = omega arith }
 
-    by : (t : Step) → AnswerRight (length (l .memory)) b t → Leaves b m t m′ → RegionKept x t → Stands x (hear b t) m′
-    by (called c answer) right leaves kept-region =
+    by : (t : Step) → AnswerRight (length (l .memory)) b t → Leaves b m t m′ → BytesKept x t → Stands x (hear b t) m′
+    by (called c answer) right leaves kept-bytes =
         let k = kept x b v m r s e (length (l .memory)) answer c right in
         stood (callEffect (b .linked) c answer) (answer ∷ []) (subst (λ (n : List ℕ). BytesStand n x) (sym leaves) (k .0)) (k .1)
-    by (elsewhere c n answer) right leaves kept-region =
+    by (elsewhere n answer) right leaves kept-bytes =
         stood nothing (answer ∷ []) (subst (λ (n : List ℕ). BytesStand n x) (sym leaves) (s .bytes)) (s .own)
-    by (wrote before after) right leaves kept-region =
+    by (wrote before after) right leaves kept-bytes =
         stood nothing []
-        (inside-same m′ m (x .entry .entry .start) (x .entry .entry .length) (x .header .place) (length (x .arrived))
-        (s .inside .low)
-        (s .inside .high)
-        (rw (← leaves .0, ← leaves .1) kept-region)
-        ∙ s .bytes)
+        (subst (λ (n : List ℕ). BytesStand n x) (leaves .1) (kept-bytes ∙ subst (λ (n : List ℕ). BytesStand n x) (sym (leaves .0)) (s .bytes)))
         (s .own)
 
 -- ## The clause
@@ -451,9 +447,9 @@ began (Runs.append r p) = refl
 began (Runs.unlink r p) = refl
 began (Runs.search r p) = refl
 began (Runs.put r p) = refl
-began (Runs.putElsewhere lent r p e) = refl
+began (Runs.putElsewhere lent q payload r p e) = refl
 began (Runs.get r p) = refl
-began (Runs.getElsewhere lent r p e) = refl
+began (Runs.getElsewhere lent q r p e) = refl
 began (Runs.readEvent r p) = refl
 began (Runs.setCounter r p) = refl
 began (Runs.increment r p) = refl
@@ -468,12 +464,12 @@ module _ (step : (b : Ledger) (t t′ : Target) (m m′ : List ℕ) (l : Line) �
   after : {b : Ledger} {t′ : Target} {m m′ : List ℕ} {l : Line} → Reaches b m l t′ m′ → At (hear b (l .step)) t′ m′
   after n = record { view = n .view; is = n .is; related = n .follows .related }
 
-  module _ (x : Message) (moment : Line) (later : List Line) where
+  module _ (x : Message) (compared : Line) (later : List Line) where
     -- it stands, and does so until it is handed out
-    stands-until : (between : List Line) {b : Ledger} {t t′ : Target} {m m′ : List ℕ} → At b t m → Ran t m (between ++ (moment ∷ later)) t′ m′
+    stands-until : (between : List Line) {b : Ledger} {t t′ : Target} {m m′ : List ℕ} → At b t m → Ran t m (between ++ (compared ∷ later)) t′ m′
         → Undisturbed x b between
         → Stands x b m
-        → BytesStand (moment .memory) x
+        → BytesStand (compared .memory) x
     stands-until [] h (Runs.next p rest) u s = rw (began p) (s .bytes)
     stands-until (l ∷ ls) {b} {t} {m} h (Runs.next {t′} {m′} p rest) u s =
         let n = step b t t′ m m′ l h p in
@@ -482,10 +478,10 @@ module _ (step : (b : Ledger) (t t′ : Target) (m m′ : List ℕ) (l : Line) �
     module _ (arrival : Line) (between : List Line) (k : managesLocal x ≡ true) where
       -- from any ledger on: it arrives, and stands until it is handed out
       stands-from : (earlier : List Line) {b : Ledger} {t t′ : Target} {m m′ : List ℕ} → At b t m
-          → Ran t m (earlier ++ (arrival ∷ between ++ (moment ∷ later))) t′ m′
+          → Ran t m (earlier ++ (arrival ∷ between ++ (compared ∷ later))) t′ m′
           → ledgerFrom b (earlier ++ (arrival ∷ [])) .arrivals ≡ ledgerFrom b earlier .arrivals ++ (x ∷ [])
           → Undisturbed x (ledgerFrom b (earlier ++ (arrival ∷ []))) between
-          → BytesStand (moment .memory) x
+          → BytesStand (compared .memory) x
       stands-from [] {b} {t} {m} h (Runs.next {t′} {m′} p rest) e u =
           let n = step b t t′ m m′ arrival h p in
           stands-until between (after n) rest u (stands-arrive x b (h .view) m m′ (n .view) arrival (h .related) (n .follows) e k)
@@ -496,9 +492,9 @@ module _ (step : (b : Ledger) (t t′ : Target) (m m′ : List ℕ) (l : Line) �
       → (x : Message) (s : Stay log x)
       → managesLocal x ≡ true
       → Undisturbed x (ledgerOf (s .earlier ++ (s .arrival ∷ []))) (s .between)
-      → BytesStand (s .moment .memory) x
+      → BytesStand (s .compared .memory) x
   bytes-stand t t′ start m log h ran x s k u =
-      stands-from x (s .moment) (s .later) (s .arrival) (s .between) k (s .earlier) h
+      stands-from x (s .compared) (s .later) (s .arrival) (s .between) k (s .earlier) h
       (subst (λ (ls : List Line). Ran t start ls t′ m) (s .split) ran)
       (s .arrives)
       u

@@ -1,6 +1,6 @@
 -- What a step has to show, part by part, and what follows from it.
 use mathlib.Core.Path.{_≡_, refl, ap, sym, _∙_, subst}
-use mathlib.Core.Bool.{true, false, cond}
+use mathlib.Core.Bool.{Bool, true, false, cond}
 use mathlib.Core.List.{List, [], _∷_, _++_, append-nil}
 use Prim.Native.Nat.{ℕ, _+_, _%_, _^_}
 use native.Mathlib.Nat.{add-zero}
@@ -11,15 +11,15 @@ use Rattle.state.specs.Lists.{any, select}
 use Rattle.state.specs.View.{View, EventQueue, isLinked}
 use Rattle.state.specs.Registers.{registerAt}
 use Rattle.state.proofs.ListLaws.{cond-cases, neither}
-use Rattle.portals.specs.Answers.{Answer, LINKED, DROPPED, PERM, OP, refused}
+use Rattle.portals.specs.Answers.{Answer, refused}
 use Rattle.portals.specs.Calls.{Call, stateAfter, answerTo}
 use Rattle.portals.specs.Calls as calls
 use Rattle.portals.proofs.CallLaws.{call-laws}
-use Rattle.conservation.specs.Steps.{called, says, count, eventIn, eventsRead}
-use Rattle.conservation.specs.Ledger.{Ledger, Effect, EventLog, nothing, callEffect, linkedAfter, arrivalsOf, waitingAfter, handOuts, issuedBy, logAll, effectHeard}
+use Rattle.conservation.specs.Steps.{called, count, eventIn, eventsRead, saysLinked, saysDropped, saysPerm, saysOp}
+use Rattle.conservation.specs.Ledger.{Ledger, Effect, Fates, nothing, callEffect, linkedAfter, arrivalsOf, waitingAfter, handOuts, issuedBy, addAll, effectHeard}
 use Rattle.conservation.specs.Runs.{line}
 use Rattle.conservation.specs.Answering.{AnswerRight, countedIn, registerOf}
-use Rattle.conservation.proofs.Relations.{Logs, Related, memoryBy, Follows}
+use Rattle.conservation.proofs.Relations.{SameEvents, Related, memoryBy, Follows}
 use Rattle.conservation.proofs.NumberLaws.{none-found}
 use Rattle.conservation.proofs.EventLaws.{reads-more, count-more, overflow-shown}
 use Rattle.conservation.proofs.MessageLaws.{Messages, messages-parted}
@@ -28,32 +28,32 @@ use Rattle.conservation.proofs.MessageLaws.{Messages, messages-parted}
 
 -- an answer that no register counts
 abbrev pub Unregistered : Answer → Type 0
-Unregistered a = any (says a) (DROPPED 0 ∷ PERM 0 ∷ OP 0 ∷ []) ≡ false
+Unregistered a = any (λ p. p a) (saysDropped ∷ saysPerm ∷ saysOp ∷ []) ≡ false
 
 -- and that reads no event and gives no handle
 pub record Plain (a : Answer) : Type 0 where
   pub event : eventIn a ≡ []
-  pub handle : says a (LINKED 0) ≡ false
+  pub handle : saysLinked a ≡ false
   pub unregistered : Unregistered a
 
-pub same-count : (b : Answer) (heard : List Answer) (a : Answer) → says a b ≡ false → count b (heard ++ (a ∷ [])) ≡ count b heard
-same-count b heard a e = count-more b heard a ∙ rw e (add-zero (count b heard))
+pub same-count : (p : Answer → Bool) (heard : List Answer) (a : Answer) → p a ≡ false → count p (heard ++ (a ∷ [])) ≡ count p heard
+same-count p heard a e = count-more p heard a ∙ rw e (add-zero (count p heard))
 
-pub one-more : (b : Answer) (heard : List Answer) (a : Answer) → says a b ≡ true → count b (heard ++ (a ∷ [])) ≡ count b heard + 1
-one-more b heard a e = count-more b heard a ∙ rw e refl
+pub one-more : (p : Answer → Bool) (heard : List Answer) (a : Answer) → p a ≡ true → count p (heard ++ (a ∷ [])) ≡ count p heard + 1
+one-more p heard a e = count-more p heard a ∙ rw e refl
 
 pub same-reads : (heard : List Answer) (a : Answer) → eventIn a ≡ [] → eventsRead (heard ++ (a ∷ [])) ≡ eventsRead heard
 same-reads heard a e = reads-more heard a ∙ rw e (append-nil (eventsRead heard))
 
 pub same-register : (heard : List Answer) (a : Answer) → Unregistered a → (k : ℕ) → registerOf (heard ++ (a ∷ [])) k ≡ registerOf heard k
 same-register heard a u k =
-    let dropped = neither (says a (DROPPED 0)) (any (says a) (PERM 0 ∷ OP 0 ∷ [])) u in
-    let permission = neither (says a (PERM 0)) (any (says a) (OP 0 ∷ [])) (dropped .1) in
-    let operation = neither (says a (OP 0)) false (permission .1) in
+    let dropped = neither (saysDropped a) (any (λ p. p a) (saysPerm ∷ saysOp ∷ [])) u in
+    let permission = neither (saysPerm a) (any (λ p. p a) (saysOp ∷ [])) (dropped .1) in
+    let operation = neither (saysOp a) false (permission .1) in
     ap (λ n. n % 2 ^ 64) (same-count (countedIn k) heard a
-    (cond-cases (λ b. says a b ≡ false) (eqb k 0) (DROPPED 0) (cond (eqb k 1) (PERM 0) (OP 0))
+    (cond-cases (λ p. p a ≡ false) (eqb k 0) saysDropped (cond (eqb k 1) saysPerm saysOp)
     (λ e. dropped .0)
-    (λ e. cond-cases (λ b. says a b ≡ false) (eqb k 1) (PERM 0) (OP 0) (λ f. permission .0) (λ f. operation .0))))
+    (λ e. cond-cases (λ p. p a ≡ false) (eqb k 1) saysPerm saysOp (λ f. permission .0) (λ f. operation .0))))
 
 -- ## A step
 
@@ -63,8 +63,8 @@ pub record Kept (b : Ledger) (m : List ℕ) (c : Call) (a : Answer) (v′ : View
   pub effect : callEffect (b .linked) c a ≡ d
   pub linked : select isLinked (v′ .entries) ≡ linkedAfter (b .linked) d
   pub messages : Messages (b .arrivals ++ arrivalsOf d) (waitingAfter b d) (b .handed ++ handOuts b d) (v′ .entries) (v′ .headers)
-  pub events : Logs (eventsRead (b .heard ++ (a ∷ []))) (v′ .queue) (logAll (length (eventsRead (b .heard))) (b .events) (issuedBy b d))
-  pub last : v′ .last ≡ count (LINKED 0) (b .heard ++ (a ∷ []))
+  pub events : SameEvents (eventsRead (b .heard ++ (a ∷ []))) (v′ .queue) (addAll (length (eventsRead (b .heard))) (b .events) (issuedBy b d))
+  pub last : v′ .last ≡ count saysLinked (b .heard ++ (a ∷ []))
   pub registers : (k : ℕ) → registerAt (v′ .registers) k ≡ registerOf (b .heard ++ (a ∷ [])) k
   pub memory : m′ ≡ memoryBy m d
 
@@ -98,9 +98,9 @@ module _ (b : Ledger) (v : View) (m : List ℕ) (r : Related b v m) where
   same-messages = messages-parted messages (v .entries) (v .headers) (none-found (b .waiting)) (r .homes) (r .headers)
 
   -- no event is read, and some are issued
-  pub same-read : (a : Answer) (q : EventQueue) (s : EventLog) → eventIn a ≡ [] → Logs (eventsRead (b .heard)) q s
-      → Logs (eventsRead (b .heard ++ (a ∷ []))) q s
-  same-read a q s e t = subst (λ reads. Logs reads q s) (sym (same-reads (b .heard) a e)) t
+  pub same-read : (a : Answer) (q : EventQueue) (s : Fates) → eventIn a ≡ [] → SameEvents (eventsRead (b .heard)) q s
+      → SameEvents (eventsRead (b .heard ++ (a ∷ []))) q s
+  same-read a q s e t = subst (λ reads. SameEvents reads q s) (sym (same-reads (b .heard) a e)) t
 
   -- a plain answer, which changes no more than the counters
   pub plain-kept : (c : Call) (a : Answer) (v′ : View) → Plain a
@@ -117,7 +117,7 @@ module _ (b : Ledger) (v : View) (m : List ℕ) (r : Related b v m) where
     linked = ap (select isLinked) entries ∙ r .linked;
     messages = rw (entries, headers) same-messages;
     events = rw queue (same-read a (v .queue) (b .events) (p .event) (r .events));
-    last = last ∙ r .last ∙ sym (same-count (LINKED 0) (b .heard) a (p .handle));
+    last = last ∙ r .last ∙ sym (same-count saysLinked (b .heard) a (p .handle));
     registers = λ k. ap (λ rs. registerAt rs k) registers ∙ r .registers k ∙ sym (same-register (b .heard) a (p .unregistered) k);
     memory = refl;
   }

@@ -32,8 +32,8 @@ use Rattle.portals.specs.Answers.{Answer, LINKED, TAKEN, DONE, SEARCHED, PRIORI
 use Rattle.portals.specs.EventRead.{oldestOf}
 use Rattle.portals.specs.CounterCalls.{counterTests, badPollArgument, badRegisterArgument}
 use Rattle.portals.specs.Calls.{Call, append, unlink, search, put, get, readEvent, setCounter, increment, readCounter, readRegister, ready, poll}
-use Rattle.conservation.specs.Steps.{Step, called, elsewhere, wrote, count, eventsRead}
-use Rattle.conservation.specs.Ledger.{Ledger, chosen, searchWalk, appendWalk, queuedOf, headersAt}
+use Rattle.conservation.specs.Steps.{Step, called, elsewhere, wrote, count, eventsRead, saysLinked, saysDropped, saysPerm, saysOp}
+use Rattle.conservation.specs.Ledger.{Ledger, chosen, searchWalk, appendWalk, stillQueued, keptWithout, headersAt}
 
 -- ## Refusals
 
@@ -42,11 +42,11 @@ use Rattle.conservation.specs.Ledger.{Ledger, chosen, searchWalk, append
 abbrev pub slotsTaken : List HeldEntry → List Header → ℕ
 slotsTaken linked [] = length linked
 slotsTaken linked (h ∷ others) =
-    cond (any (hasHandle (h .handle)) linked || any (names (h .handle)) others) 0 1 + slotsTaken linked others
+    cond (keptWithout linked h others) 0 1 + slotsTaken linked others
 
 -- NO_SPACE: "append: 64 slots taken at entry, or no handle left"
 abbrev pub spaceFor : Ledger → Bool
-spaceFor b = ltb (slotsTaken (b .linked) (headersAt b (b .waiting))) SLOTS && ltb (count (LINKED 0) (b .heard)) LAST-HANDLE
+spaceFor b = ltb (slotsTaken (b .linked) (headersAt b (b .waiting))) SLOTS && ltb (count saysLinked (b .heard)) LAST-HANDLE
 
 -- "any handle not linked is ARG_INVALID"
 abbrev pub badHandle : Ledger → ℕ → BadArgument
@@ -77,7 +77,7 @@ testsOf size b (poll ks tests) = goodArguments (badPollArgument ks tests) ∷ []
 -- this one included
 abbrev pub expectedOfAppend : Ledger → Entry → Answer
 expectedOfAppend b e =
-    cond (usesOnce e && not (isEmpty (appendWalk b e .found))) TAKEN (LINKED (count (LINKED 0) (b .heard) + 1))
+    cond (usesOnce e && not (isEmpty (appendWalk b e .found))) TAKEN (LINKED (count saysLinked (b .heard) + 1))
 
 -- ## Put and get
 
@@ -104,9 +104,9 @@ expectedOfRequest b q a = answerOn b a (q .ack) (chosen (b .linked) (q .portal) 
 
 -- ## The registers
 
--- the answer that a register counts: "0 drop, 1 permission, 2 operation"
-abbrev pub countedIn : ℕ → Answer
-countedIn k = cond (eqb k 0) (DROPPED 0) (cond (eqb k 1) (PERM 0) (OP 0))
+-- the answers that a register counts: "0 drop, 1 permission, 2 operation"
+abbrev pub countedIn : ℕ → Answer → Bool
+countedIn k = cond (eqb k 0) saysDropped (cond (eqb k 1) saysPerm saysOp)
 
 -- "modulo 2^64, the number of answers of its kind"
 abbrev pub registerOf : List Answer → ℕ → ℕ
@@ -121,7 +121,7 @@ expected b (unlink handle) answer = DONE
 expected b (search e) answer = SEARCHED (length (searchWalk b e .found))
 expected b (put q payload) answer = expectedOfRequest b q (arrivalOf q Kind.Put (length payload))
 expected b (get q reply) answer = expectedOfRequest b q (arrivalOf q Kind.Get (length reply))
-expected b readEvent answer = oldestOf (drop (length (eventsRead (b .heard))) (queuedOf (b .events .logged)))
+expected b readEvent answer = oldestOf (stillQueued (length (eventsRead (b .heard))) (b .events))
 expected b (setCounter x) answer = DONE
 expected b (increment x) answer = DONE
 expected b (readCounter k) answer = answer
@@ -132,5 +132,5 @@ expected b (poll ks tests) answer = answer
 -- the answer of a step is the ledger's; BAD_MEMORY: "put or get: memory length differs from the state's"
 abbrev pub AnswerRight : ℕ → Ledger → Step → Type 0
 AnswerRight size b (called c answer) = answer ≡ unlessRefused refused (testsOf size b c) (expected b c answer)
-AnswerRight size b (elsewhere c n answer) = (eqb n size ≡ false) × (answer ≡ refused Refusal.BadMemory)
+AnswerRight size b (elsewhere n answer) = answer ≡ refused Refusal.BadMemory
 AnswerRight size b (wrote m m′) = Unit

@@ -36,30 +36,34 @@ shareByte e f = ltb (max (e .start) (f .start)) (min (e .start + e .length) (f .
 abbrev pub apart : Message → Ledger → Bool
 apart x b = every (λ y. hasHandle (x .entry .handle) y || not (shareByte (y .entry) (x .entry .entry))) (b .linked)
 
--- "no host write changed a byte of it": of that entry's region
-abbrev pub RegionKept : Message → Step → Type 0
-RegionKept x (called c answer) = Unit
-RegionKept x (elsewhere c n answer) = Unit
-RegionKept x (wrote m m′) =
-    bytesAt m′ (x .entry .entry .start) (x .entry .entry .length) ≡ bytesAt m (x .entry .entry .start) (x .entry .entry .length)
+-- "no host write changed a byte of it": of the message's bytes, which lie in that entry's region, so that less is asked of the host than
+-- if the whole region had to stay (decision 60)
+abbrev pub BytesKept : Message → Step → Type 0
+BytesKept x (called c answer) = Unit
+BytesKept x (elsewhere n answer) = Unit
+BytesKept x (wrote m m′) = bytesAt m′ (x .header .place) (length (x .arrived)) ≡ bytesAt m (x .header .place) (length (x .arrived))
 
--- both, over these steps from the ledger b on: apart as the first step begins and after each, and no host write among them changes the
--- region. Entries that were linked before the first step count, and so do those linked and unlinked in between
+-- both, over these steps from the ledger b on: apart as the first step begins and after each, and no host write among them changes its
+-- bytes. Entries that were linked before the first step count, and so do those linked and unlinked in between
 abbrev pub Undisturbed : Message → Ledger → List Line → Type 0
 Undisturbed x b [] = apart x b ≡ true
-Undisturbed x b (l ∷ ls) = (apart x b ≡ true) × RegionKept x (l .step) × Undisturbed x (hear b (l .step)) ls
+Undisturbed x b (l ∷ ls) = (apart x b ≡ true) × BytesKept x (l .step) × Undisturbed x (hear b (l .step)) ls
 
--- a message's stay in a list of steps: those before its arrival, the step with which it arrives, those in between, the step at whose
--- beginning its bytes are compared, and those after. The demand's moment is the call that hands the message out; here it is any step
+-- A message's stay in a list of steps: earlier | arrival | between | compared | later. It arrives with the step `arrival`, and its bytes are
+-- compared as the step `compared` begins. The demand's is the call that hands the message out; here it is any later step
 pub record Stay (log : List Line) (x : Message) : Type 0 where
   pub earlier : List Line
   pub arrival : Line
   pub between : List Line
-  pub moment : Line
+  pub compared : Line
   pub later : List Line
-  pub split : log ≡ earlier ++ (arrival ∷ between ++ (moment ∷ later))
+  pub split : log ≡ earlier ++ (arrival ∷ between ++ (compared ∷ later))
   -- the ledger's arrivals grow by it
   pub arrives : ledgerOf (earlier ++ (arrival ∷ [])) .arrivals ≡ ledgerOf earlier .arrivals ++ (x ∷ [])
+
+-- the ledger just after the arrival
+abbrev pub atArrival : {log : List Line} {x : Message} → Stay log x → Ledger
+atArrival s = ledgerOf (s .earlier ++ (s .arrival ∷ []))
 
 abbrev pub managesLocal : Message → Bool
 managesLocal x = isSet (x .entry .entry .options) MANAGE-LOCAL

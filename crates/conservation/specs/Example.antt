@@ -1,5 +1,5 @@
--- A list of calls that were run: the worked listing of document 01, with a write of the host in between. Its message waits in an entry
--- that manages its own offset, is undisturbed, and is handed out; so no part of the claim is empty.
+-- A list of calls that were run: the first three of document 01's worked listing, with a write of the host in between. Its message waits in
+-- an entry that manages its own offset, is undisturbed, and is handed out: neither the hand-out nor the bytes clause is empty.
 use mathlib.Core.Path.{_≡_}
 use mathlib.Core.Bool.{true}
 use mathlib.Core.List.{List, [], _∷_, _++_}
@@ -15,7 +15,7 @@ use Rattle.portals.specs.declared.answers.NewDone.{NewDone}
 use Rattle.conservation.specs.Steps.{wrote}
 use Rattle.conservation.specs.Ledger.{Message, messageAt}
 use Rattle.conservation.specs.Runs.{Line, line, Ran}
-use Rattle.conservation.specs.Bytes.{ledgerOf, Stay, Undisturbed, managesLocal, BytesStand}
+use Rattle.conservation.specs.Bytes.{ledgerOf, Stay, atArrival, Undisturbed, managesLocal, BytesStand}
 use Rattle.conservation.specs.Conserved.{Conserved}
 use Rattle.conservation.specs.declared.example.Left.{Left}
 
@@ -62,12 +62,12 @@ pub record Example (r : Left) : Type 0 where
   pub made : NewMet (record { size = 16 }) new
   -- the calls were run, with these answers
   pub ran : Ran (new .target) zeros log (r .target) (r .memory)
-  pub conserved : Conserved log (r .target)
+  pub conserved : Conserved log (r .target) (r .memory)
   -- it was handed out
   pub handed : ledgerOf log .handed ≡ 0 ∷ []
   -- its entry manages its own offset, and nothing disturbed it between its arrival and that append; so its bytes stand
   pub stay : Stay log abc
-  pub handedBy : stay .moment ≡ taking
+  pub handedBy : stay .compared ≡ taking
   pub managed : managesLocal abc ≡ true
-  pub undisturbed : Undisturbed abc (ledgerOf (stay .earlier ++ (stay .arrival ∷ []))) (stay .between)
+  pub undisturbed : Undisturbed abc (atArrival stay) (stay .between)
   pub stands : BytesStand touched abc

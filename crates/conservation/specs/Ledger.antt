@@ -3,9 +3,9 @@
 use mathlib.Core.Bool.{Bool, true, false, _||_, cond}
 use mathlib.Core.List.{List, [], _∷_, _++_, map}
 use mathlib.Core.Option.{Option, none, some}
-use Prim.Native.Nat.{ℕ, _-_}
+use Prim.Native.Nat.{ℕ}
 use lib.Dec.{eqb, ltb}
-use lib.ListN.{length, take, getD}
+use lib.ListN.{length, take, drop, getD}
 use Rattle.matching.specs.Request.{arrivalOf, accepted, localAfter, unlinks}
 use Rattle.matching.specs.EarlyMessages.{takesHeaders}
 use Rattle.matching.specs.declared.layout.Entry.{Entry}
@@ -24,9 +24,9 @@ use Rattle.requests.specs.Choice.{isCandidate}
 use Rattle.requests.specs.Plan.{message}
 use Rattle.early.specs.Walk.{Walk, walk, noWalk, usesOnce, fitsHeader}
 use Rattle.early.specs.Handling.{newEntry}
-use Rattle.portals.specs.Answers.{Answer, LINKED, TAKEN, DONE, SEARCHED, PRIORITY, OVERFLOW}
+use Rattle.portals.specs.Answers.{Answer, LINKED, TAKEN, SEARCHED, PRIORITY, OVERFLOW}
 use Rattle.portals.specs.Calls.{Call, append, unlink, search, put, get, readEvent, setCounter, increment, readCounter, readRegister, ready, poll}
-use Rattle.conservation.specs.Steps.{Step, called, elsewhere, wrote, says, handleIn, answersIn, eventsRead}
+use Rattle.conservation.specs.Steps.{Step, called, elsewhere, wrote, handleIn, answersIn, eventsRead, saysLinked, saysSearched, saysPriority, saysOverflow, saysTaken, saysDone}
 
 -- ## What the ledger holds
 
@@ -45,13 +45,13 @@ pub data Fate : Type 0 where
   lost : Fate
   queued : ℕ → Fate
 
-pub record Logged : Type 0 where
+pub record Fated : Type 0 where
   pub issued : Issued
   pub fate : Fate
 
 -- every event that the rules issued, in order; and the mark that one met a full queue since the last was queued
-pub record EventLog : Type 0 where
-  pub logged : List Logged
+pub record Fates : Type 0 where
+  pub all : List Fated
   pub mark : ℕ
 
 pub record Ledger : Type 0 where
@@ -63,12 +63,12 @@ pub record Ledger : Type 0 where
   -- the numbers of those that wait, and of those handed out
   pub waiting : List ℕ
   pub handed : List ℕ
-  pub events : EventLog
+  pub events : Fates
   -- every answer
   pub heard : List Answer
 
 abbrev pub empty : Ledger
-empty = record { linked = []; arrivals = []; waiting = []; handed = []; events = record { logged = []; mark = 0 }; heard = [] }
+empty = record { linked = []; arrivals = []; waiting = []; handed = []; events = record { all = []; mark = 0 }; heard = [] }
 
 -- the message of a number
 abbrev pub messageAt : List Message → ℕ → Message
@@ -118,15 +118,15 @@ deliveryTo portal a payload (some x) = delivery portal a payload x
 -- "At PRIORITY or OVERFLOW rules 1 to 3 and 5 to 7 run on the book"
 abbrev pub requestEffect : List HeldEntry → ℕ → Arrival → List ℕ → Answer → Effect
 requestEffect linked portal a payload answer =
-    cond (says answer (PRIORITY 0 0 0) || says answer (OVERFLOW 0 0 0))
+    cond (saysPriority answer || saysOverflow answer)
     (deliveryTo portal a payload (chosen linked portal a))
     nothing
 
 abbrev pub callEffect : List HeldEntry → Call → Answer → Effect
 callEffect linked (append e) answer =
-    cond (says answer (LINKED 0)) (link e (handleIn answer)) (cond (says answer TAKEN) (taken e) nothing)
-callEffect linked (unlink handle) answer = cond (says answer DONE) (remove handle) nothing
-callEffect linked (search e) answer = cond (says answer (SEARCHED 0)) (cond (eqb (e .list) 0) (look e) (delete e)) nothing
+    cond (saysLinked answer) (link e (handleIn answer)) (cond (saysTaken answer) (taken e) nothing)
+callEffect linked (unlink handle) answer = cond (saysDone answer) (remove handle) nothing
+callEffect linked (search e) answer = cond (saysSearched answer) (cond (eqb (e .list) 0) (look e) (delete e)) nothing
 callEffect linked (put q payload) answer =
     requestEffect linked (q .portal) (arrivalOf q Kind.Put (length payload)) payload answer
 callEffect linked (get q reply) answer = requestEffect linked (q .portal) (arrivalOf q Kind.Get (length reply)) [] answer
@@ -140,7 +140,7 @@ callEffect linked (poll ks tests) answer = nothing
 
 abbrev pub effectOf : List HeldEntry → Step → Effect
 effectOf linked (called c answer) = callEffect linked c answer
-effectOf linked (elsewhere c n answer) = nothing
+effectOf linked (elsewhere n answer) = nothing
 effectOf linked (wrote m m′) = nothing
 
 -- ## The linked entries
@@ -217,11 +217,14 @@ module _ (b : Ledger) where
 
 -- ## The events
 
--- AUTO_FREE "if it was a retired entry's last": none of the messages that still wait is in the entry of the one handed out, and that
--- entry is linked no more; as an entry with waiting messages is never unlinked by a call (IN_USE), it is then a retired one
+-- the entry of a message keeps its slot without it: the entry is linked, or one of these other messages waits in it too. Else it was "a
+-- retired entry's last": a call does not unlink an entry with waiting messages (IN_USE)
+abbrev pub keptWithout : List HeldEntry → Header → List Header → Bool
+keptWithout linked h others = any (hasHandle (h .handle)) linked || any (names (h .handle)) others
+
+-- AUTO_FREE "if it was a retired entry's last"
 abbrev pub autoFreeEvents : List HeldEntry → Message → List Header → List Issued
-autoFreeEvents linked x others =
-    cond (any (hasHandle (x .header .handle)) linked || any (names (x .header .handle)) others) [] (autoFreeEvent (x .entry) ∷ [])
+autoFreeEvents linked x others = cond (keptWithout linked (x .header) others) [] (autoFreeEvent (x .entry) ∷ [])
 
 -- "one overflow event each", "followed by AUTO_FREE". `owner`: the handle of the entry that takes it, 0 if that has none. When one is
 -- handed out, those found later and those left still wait
@@ -258,24 +261,28 @@ queuedAs e disabled = []
 queuedAs e lost = []
 queuedAs e (queued gap) = withGap e gap ∷ []
 
-abbrev pub queuedOf : List Logged → List Event
+abbrev pub queuedOf : List Fated → List Event
 queuedOf [] = []
 queuedOf (t ∷ ts) = queuedAs (t .issued .event) (t .fate) ++ queuedOf ts
 
 -- by what was found: the options disable it, the queue has room.
 -- "An event that meets a full queue is lost; the next one queued carries gap 1, others 0."
-abbrev pub logBy : Bool → Bool → EventLog → Issued → EventLog
-logBy true room s i = record { logged = s .logged ++ (record { issued = i; fate = disabled } ∷ []); mark = s .mark }
-logBy false true s i = record { logged = s .logged ++ (record { issued = i; fate = queued (gapOf (s .mark)) } ∷ []); mark = 0 }
-logBy false false s i = record { logged = s .logged ++ (record { issued = i; fate = lost } ∷ []); mark = 1 }
+abbrev pub addBy : Bool → Bool → Fates → Issued → Fates
+addBy true room s i = record { all = s .all ++ (record { issued = i; fate = disabled } ∷ []); mark = s .mark }
+addBy false true s i = record { all = s .all ++ (record { issued = i; fate = queued (gapOf (s .mark)) } ∷ []); mark = 0 }
+addBy false false s i = record { all = s .all ++ (record { issued = i; fate = lost } ∷ []); mark = 1 }
 
--- `read`: how many were read so far; those queued and not read are in the queue
-unfoldable pub logEvent : ℕ → EventLog → Issued → EventLog
-logEvent read s i = logBy (isDisabled i) (ltb (length (queuedOf (s .logged)) - read) EVENTS) s i
+-- those that are queued and were not among the first `read` that were read
+abbrev pub stillQueued : ℕ → Fates → List Event
+stillQueued read s = drop read (queuedOf (s .all))
 
-abbrev pub logAll : ℕ → EventLog → List Issued → EventLog
-logAll read s [] = s
-logAll read s (i ∷ is) = logAll read (logEvent read s i) is
+-- `read`: how many were read so far
+unfoldable pub addEvent : ℕ → Fates → Issued → Fates
+addEvent read s i = addBy (isDisabled i) (ltb (length (stillQueued read s)) EVENTS) s i
+
+abbrev pub addAll : ℕ → Fates → List Issued → Fates
+addAll read s [] = s
+addAll read s (i ∷ is) = addAll read (addEvent read s i) is
 
 -- ## The fold
 
@@ -285,7 +292,7 @@ effectHeard b d answers = record {
   arrivals = b .arrivals ++ arrivalsOf d;
   waiting = waitingAfter b d;
   handed = b .handed ++ handOuts b d;
-  events = logAll (length (eventsRead (b .heard))) (b .events) (issuedBy b d);
+  events = addAll (length (eventsRead (b .heard))) (b .events) (issuedBy b d);
   heard = b .heard ++ answers;
 }
 

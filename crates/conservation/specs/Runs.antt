@@ -1,11 +1,12 @@
 -- Lists of calls on a target: each step is a public call, by its promise alone, or a write of the host.
 use mathlib.Core.Path.{_≡_}
+use mathlib.Core.Bool.{false}
 use mathlib.Core.List.{List, [], _∷_}
 use Prim.Native.Nat.{ℕ}
+use lib.Dec.{eqb}
 use lib.ListN.{length}
 use Rattle.matching.specs.declared.layout.Entry.{Entry}
 use Rattle.matching.specs.declared.layout.Request.{Request}
-use Rattle.matching.specs.declared.refusals.Refusal.the-variants as Refusal
 use Rattle.state.specs.declared.layout.CounterChange.{CounterChange}
 use Rattle.state.specs.declared.layout.CounterTest.{CounterTest}
 use Rattle.state.specs.declared.layout.Target.{Target}
@@ -33,8 +34,8 @@ abbrev pub line : List ℕ → Call → Answer → Line
 line m c answer = record { step = called c answer; memory = m }
 
 -- of a put or a get that was lent another memory
-abbrev pub lineElsewhere : List ℕ → Call → List ℕ → Answer → Line
-lineElsewhere m c lent answer = record { step = elsewhere c (length lent) answer; memory = m }
+abbrev pub lineElsewhere : List ℕ → List ℕ → Answer → Line
+lineElsewhere m lent answer = record { step = elsewhere (length lent) answer; memory = m }
 
 -- One step: from a target, and "memory of the target's size" beside it, to the next target and memory. A call is here by the record that
 -- its `ensures` cites (`portals`, proofs/Promised.antt). "a call that is lent memory, unless refused BAD_MEMORY, is lent this one, any
@@ -52,18 +53,18 @@ pub data Stepped : Target → List ℕ → Line → Target → List ℕ → Type
   put : {t : Target} {m m′ : List ℕ} {q : Request} {payload : List ℕ} (r : RequestDone)
       → PutMet t m q payload r m′
       → Stepped t m (line m (Call.put q payload) (requestAnswer (r .answer))) (r .target) m′
-  -- lent another memory, and refused for it
-  putElsewhere : {t : Target} {m : List ℕ} (lent : List ℕ) {lent′ : List ℕ} {q : Request} {payload : List ℕ} (r : RequestDone)
+  -- lent a memory of another length
+  putElsewhere : {t : Target} {m : List ℕ} (lent : List ℕ) {lent′ : List ℕ} (q : Request) (payload : List ℕ) (r : RequestDone)
       → PutMet t lent q payload r lent′
-      → requestAnswer (r .answer) ≡ refused Refusal.BadMemory
-      → Stepped t m (lineElsewhere m (Call.put q payload) lent (requestAnswer (r .answer))) (r .target) m
+      → eqb (length lent) (length m) ≡ false
+      → Stepped t m (lineElsewhere m lent (requestAnswer (r .answer))) (r .target) m
   get : {t : Target} {m : List ℕ} {q : Request} {reply reply′ : List ℕ} (r : RequestDone)
       → GetMet t m q reply r reply′
       → Stepped t m (line m (Call.get q reply) (requestAnswer (r .answer))) (r .target) m
-  getElsewhere : {t : Target} {m : List ℕ} (lent : List ℕ) {q : Request} {reply reply′ : List ℕ} (r : RequestDone)
+  getElsewhere : {t : Target} {m : List ℕ} (lent : List ℕ) (q : Request) {reply reply′ : List ℕ} (r : RequestDone)
       → GetMet t lent q reply r reply′
-      → requestAnswer (r .answer) ≡ refused Refusal.BadMemory
-      → Stepped t m (lineElsewhere m (Call.get q reply) lent (requestAnswer (r .answer))) (r .target) m
+      → eqb (length lent) (length m) ≡ false
+      → Stepped t m (lineElsewhere m lent (requestAnswer (r .answer))) (r .target) m
   readEvent : {t : Target} {m : List ℕ} (r : EventDone)
       → ReadEventMet t r
       → Stepped t m (line m Call.readEvent (eventAnswer (r .answer))) (r .target) m

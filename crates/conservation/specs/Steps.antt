@@ -11,13 +11,13 @@ pub data Step : Type 0 where
   -- put and get are lent the memory that stands beside the state
   called : Call → Answer → Step
   -- a put or a get that was lent another memory, of this length
-  elsewhere : Call → ℕ → Answer → Step
+  elsewhere : ℕ → Answer → Step
   -- "each host write between calls is a step of the list": the memory before and after it
   wrote : List ℕ → List ℕ → Step
 
 abbrev pub answersIn : Step → List Answer
 answersIn (called c a) = a ∷ []
-answersIn (elsewhere c n a) = a ∷ []
+answersIn (elsewhere n a) = a ∷ []
 answersIn (wrote m m′) = []
 
 -- ## The words of the answers
@@ -44,14 +44,37 @@ word NOT-READY = 16
 word (REACHED n) = 17
 word NONE-REACHED = 18
 
--- an answer has the same word as another
-abbrev pub says : Answer → Answer → Bool
-says a b = eqb (word a) (word b)
+abbrev pub saysLinked : Answer → Bool
+saysLinked a = eqb (word a) 2
 
--- how many answers have this word
-abbrev pub count : Answer → List Answer → ℕ
-count b [] = 0
-count b (a ∷ rest) = cond (says a b) 1 0 + count b rest
+abbrev pub saysTaken : Answer → Bool
+saysTaken a = eqb (word a) 3
+
+abbrev pub saysDone : Answer → Bool
+saysDone a = eqb (word a) 4
+
+abbrev pub saysSearched : Answer → Bool
+saysSearched a = eqb (word a) 5
+
+abbrev pub saysPriority : Answer → Bool
+saysPriority a = eqb (word a) 6
+
+abbrev pub saysOverflow : Answer → Bool
+saysOverflow a = eqb (word a) 7
+
+abbrev pub saysDropped : Answer → Bool
+saysDropped a = eqb (word a) 8
+
+abbrev pub saysPerm : Answer → Bool
+saysPerm a = eqb (word a) 9
+
+abbrev pub saysOp : Answer → Bool
+saysOp a = eqb (word a) 10
+
+-- how many answers pass a test
+abbrev pub count : (Answer → Bool) → List Answer → ℕ
+count p [] = 0
+count p (a ∷ rest) = cond (p a) 1 0 + count p rest
 
 -- LINKED's handle; 0 in any other answer
 abbrev pub handleIn : Answer → ℕ
