@@ -1,11 +1,10 @@
 -- The calls that leave the messages alone: counters, registers, reading an event, and the host's writes.
 use mathlib.Core.Path.{_≡_, refl, ap, sym, _∙_, subst}
-use mathlib.Core.Bool.{Bool, true, false, cond}
+use mathlib.Core.Bool.{false, cond}
 use mathlib.Core.List.{List, [], _∷_, append-nil}
 use mathlib.Core.Option.{Option, none, some}
 use Prim.Native.Nat.{ℕ}
-use lib.ListN.{length}
-use Rattle.matching.specs.declared.refusals.Refusal.{Refusal}
+use lib.ListN.{length, set}
 use Rattle.state.specs.View.{View}
 use Rattle.state.specs.Counters.{counterAt, increased}
 use Rattle.state.specs.Registers.{registerAt}
@@ -24,11 +23,11 @@ use Rattle.portals.specs.Calls.{Call}
 use Rattle.portals.specs.Calls as calls
 use Rattle.portals.proofs.GuardLaws.{guard-cases, unless-map}
 use Rattle.conservation.specs.Steps.{called, wrote, saysLinked}
-use Rattle.conservation.specs.Ledger.{Ledger, nothing, callEffect}
+use Rattle.conservation.specs.Ledger.{Ledger, nothing, change, callEffect}
 use Rattle.conservation.specs.Answering.{AnswerRight}
 use Rattle.conservation.proofs.Relations.{SameEvents, Related, Follows}
 use Rattle.conservation.proofs.EventLaws.{unread, read-one, reads-more, overflow-shown}
-use Rattle.conservation.proofs.StepLaws.{Unregistered, Plain, Kept, same-count, same-register, same-messages, plain-kept, refused-kept}
+use Rattle.conservation.proofs.StepLaws.{Unregistered, Plain, Kept, same-count, same-register, same-messages, same-read, plain-kept, refused-kept}
 
 module _ (b : Ledger) (v : View) (m : List ℕ) (r : Related b v m) where
   -- a call that only reads: refused, or else a plain answer
@@ -36,7 +35,7 @@ module _ (b : Ledger) (v : View) (m : List ℕ) (r : Related b v m) where
       → Kept b m c (guardedRead tests a) v m
   read-kept c tests a p d =
       guard-cases (λ o. Kept b m c o v m) refused tests a (refused-kept b v m r c)
-      (λ passed. plain-kept b v m r c a v p d refl refl refl refl refl)
+      (λ passed. plain-kept b v m r c a p d)
 
   pub read-counter-kept : (k : ℕ) → Kept b m (calls.readCounter k) (readCounter v k) v m
   unfolding readCounter
@@ -69,21 +68,32 @@ module _ (b : Ledger) (v : View) (m : List ℕ) (r : Related b v m) where
       reached (some i) = record { event = refl; handle = refl; unregistered = refl }
 
   -- a counter changes
-  counter-kept : (c : Call) (k : ℕ) (x : Counter) → callEffect (b .linked) c DONE ≡ nothing
-      → Kept b m c (guarded v tt (counterTests k) (counterDone v k x) .answer) (guarded v tt (counterTests k) (counterDone v k x) .state) m
-  counter-kept c k x d =
-      guard-cases (λ (o : Outcome View Unit). Kept b m c (o .answer) (o .state) m) (refusal v tt) (counterTests k) (counterDone v k x)
+  counter-kept : (c : Call) (k : ℕ) (f : Counter → Counter) → callEffect (b .linked) c DONE ≡ change k f
+      → Kept b m c (guarded v tt (counterTests k) (counterDone v k (f (counterAt (v .counters) k))) .answer)
+      (guarded v tt (counterTests k) (counterDone v k (f (counterAt (v .counters) k))) .state) m
+  counter-kept c k f d =
+      guard-cases (λ (o : Outcome View Unit). Kept b m c (o .answer) (o .state) m) (refusal v tt) (counterTests k)
+      (counterDone v k (f (counterAt (v .counters) k)))
       (λ why. refused-kept b v m r c why)
-      (λ passed. plain-kept b v m r c DONE _ (record { event = refl; handle = refl; unregistered = refl }) d refl refl refl refl refl)
+      (λ passed. record {
+        d = change k f;
+        effect = d;
+        linked = r .linked;
+        messages = same-messages b v m r;
+        events = same-read b v m r DONE (v .queue) (b .events) refl (r .events);
+        last = r .last ∙ sym (same-count saysLinked (b .heard) DONE refl);
+        registers = λ n. r .registers n ∙ sym (same-register (b .heard) DONE refl n);
+        counters = ap (λ (cs : List Counter). set cs k (f (counterAt cs k))) (r .counters);
+        memory = refl;
+      })
 
   pub set-counter-kept : (x : CounterChange) → Kept b m (calls.setCounter x) (setCounter v x .answer) (setCounter v x .state) m
   unfolding setCounter
-  set-counter-kept x = counter-kept (calls.setCounter x) (x .counter) (record { success = x .success; failure = x .failure }) refl
+  set-counter-kept x = counter-kept (calls.setCounter x) (x .counter) (λ c. record { success = x .success; failure = x .failure }) refl
 
   pub increment-kept : (x : CounterChange) → Kept b m (calls.increment x) (increment v x .answer) (increment v x .state) m
   unfolding increment
-  increment-kept x =
-      counter-kept (calls.increment x) (x .counter) (increased (counterAt (v .counters) (x .counter)) (x .success) (x .failure)) refl
+  increment-kept x = counter-kept (calls.increment x) (x .counter) (λ c. increased c (x .success) (x .failure)) refl
 
   oldest-gives : (events : List Event) → saysLinked (oldestOf events) ≡ false
   oldest-gives [] = refl
@@ -104,38 +114,30 @@ module _ (b : Ledger) (v : View) (m : List ℕ) (r : Related b v m) where
     events = subst (λ reads. SameEvents reads (withoutOldest (v .queue)) (b .events)) (sym (reads-more (b .heard) (oldestOf (v .queue .events)))) (read-one (r .events));
     last = r .last ∙ sym (same-count saysLinked (b .heard) _ (oldest-gives (v .queue .events)));
     registers = λ k. r .registers k ∙ sym (same-register (b .heard) _ (oldest-counts (v .queue .events)) k);
+    counters = r .counters;
     memory = refl;
   }
 
   -- ## The answers
-
-  -- what was answered in place of a counter's value is taken as it was answered, behind the same tests
-  again : {R : Type 0} (refuse : Refusal → R) (tests : List Condition) (x : R)
-      → unlessRefused refuse tests x ≡ unlessRefused refuse tests (unlessRefused refuse tests x)
-  again refuse [] x = refl
-  again refuse (c ∷ cs) x = go (c .passed) (again refuse cs x)
-    where
-      go : (p : Bool) → unlessRefused refuse cs x ≡ unlessRefused refuse cs (unlessRefused refuse cs x)
-          → cond p (unlessRefused refuse cs x) (refuse (c .refusal))
-          ≡ cond p (unlessRefused refuse cs (cond p (unlessRefused refuse cs x) (refuse (c .refusal)))) (refuse (c .refusal))
-      go true rest = rest
-      go false rest = refl
 
   abbrev Answered : Call → Answer → Type 0
   Answered c answer = AnswerRight (length m) b (called c answer)
 
   pub read-counter-answered : (k : ℕ) → Answered (calls.readCounter k) (readCounter v k)
   unfolding readCounter
-  read-counter-answered k = again refused (counterTests k) (COUNTER (counterAt (v .counters) k .success) (counterAt (v .counters) k .failure))
+  read-counter-answered k =
+      ap (λ (cs : List Counter). unlessRefused refused (counterTests k) (COUNTER (counterAt cs k .success) (counterAt cs k .failure))) (r .counters)
 
   pub ready-answered : (x : CounterTest) → Answered (calls.ready x) (ready v x)
   unfolding ready
   ready-answered x =
-      again refused (counterTests (x .counter)) (cond (isReady (counterAt (v .counters) (x .counter)) (x .test)) READY NOT-READY)
+      ap (λ (cs : List Counter). unlessRefused refused (counterTests (x .counter)) (cond (isReady (counterAt cs (x .counter)) (x .test)) READY NOT-READY))
+      (r .counters)
 
   pub poll-answered : (ks tests : List ℕ) → Answered (calls.poll ks tests) (poll v ks tests)
   unfolding poll
-  poll-answered ks tests = again refused (goodArguments (badPollArgument ks tests) ∷ []) (reachedAnswer (reachedFrom (v .counters) 0 ks tests))
+  poll-answered ks tests =
+      ap (λ (cs : List Counter). unlessRefused refused (goodArguments (badPollArgument ks tests) ∷ []) (reachedAnswer (reachedFrom cs 0 ks tests))) (r .counters)
 
   pub read-register-answered : (k : ℕ) → Answered (calls.readRegister k) (readRegister v k)
   unfolding readRegister
@@ -167,6 +169,7 @@ module _ (b : Ledger) (v : View) (m : List ℕ) (r : Related b v m) where
       events = rw (append-nil (b .heard)) (r .events);
       last = rw (append-nil (b .heard)) (r .last);
       registers = rw (append-nil (b .heard)) (r .registers);
+      counters = r .counters;
     };
     right = record { answer = tt; overflow = overflow-shown b nothing };
     memory = (refl, refl);

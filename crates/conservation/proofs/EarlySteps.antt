@@ -8,21 +8,25 @@ use lib.Dec.{eqb, ltb}
 use lib.ListN.{length, length-map}
 use Rattle.matching.specs.Refusals.{firstBad}
 use Rattle.matching.specs.Entry.{badEntryArgument}
+use Rattle.matching.specs.Counters.{overflowAmount}
 use Rattle.matching.specs.declared.layout.Entry.{Entry}
 use Rattle.matching.specs.declared.refusals.Refusal.the-variants as Refusal
 use Rattle.matching.specs.declared.refusals.BadArgument.the-variants as BadArgument
-use Rattle.state.specs.Lists.{any, every, select, withoutFirst, isEmpty}
+use Rattle.state.specs.Lists.{any, every, select, sumOf, withoutFirst, isEmpty}
 use Rattle.state.specs.View.{View, isLinked, isLinkedAs, hasHandle}
 use Rattle.state.specs.Soundness.{keepsSlot, headerSound, names}
 use Rattle.state.specs.Sizes.{SLOTS, LAST-HANDLE}
+use Rattle.state.specs.Counters.{counted}
 use Rattle.state.specs.Events.{Issued, linkEvent, postAll}
 use Rattle.state.specs.declared.layout.HeldEntry.{HeldEntry}
 use Rattle.state.specs.declared.layout.Header.{Header}
+use Rattle.state.specs.declared.layout.Counter.{Counter}
 use Rattle.state.proofs.ListLaws.{Part, nothing, keeps, leaves, part-every, part-select, part-withoutFirst, cond-cases}
 use Rattle.state.proofs.SoundLaws.{sound-facts}
 use Rattle.early.specs.Walk.{Walk, walk, noWalk, usesOnce, fitsHeader, foundOnce}
 use Rattle.early.specs.Walk as early
 use Rattle.early.specs.HandOut as HandOut
+use Rattle.early.specs.Handling as handling
 use Rattle.early.specs.Handling.{newEntry, handled}
 use Rattle.early.specs.declared.handling.Handling.{Handling}
 use Rattle.early.specs.declared.handling.Handling.the-variants as Handling
@@ -33,7 +37,7 @@ use Rattle.portals.specs.EarlyMessages.{takenBy, appendBy, appended, appendTest
 use Rattle.portals.specs.Calls as calls
 use Rattle.portals.proofs.GuardLaws.{guard-cases, unless-map}
 use Rattle.conservation.specs.Steps.{called, count, eventIn, eventsRead, saysLinked}
-use Rattle.conservation.specs.Ledger.{Ledger, link, taken, remove, look, delete, without, headerAt, messageAt, searchWalk, appendWalk, walkEvents, addAll, headersAt}
+use Rattle.conservation.specs.Ledger.{overflowCounted, Ledger, link, taken, remove, look, delete, without, headerAt, messageAt, searchWalk, appendWalk, walkEvents, addAll, headersAt}
 use Rattle.conservation.specs.Answering.{slotsTaken, expectedOfAppend, AnswerRight}
 use Rattle.conservation.proofs.Relations.{Home, SameEvents, Related}
 use Rattle.conservation.proofs.AllLaws.{all-part, all-imply, all-both}
@@ -53,6 +57,10 @@ empty-map : {A B : Type 0} (f : A → B) (l : List A) → isEmpty (map f l) ≡ 
 empty-map f [] = refl
 empty-map f (x ∷ l) = refl
 
+sum-map : {A B : Type 0} (g : A → B) (f : B → ℕ) (l : List A) → sumOf f (map g l) ≡ sumOf (λ x. f (g x)) l
+sum-map g f [] = refl
+sum-map g f (x ∷ l) = ap (λ n. f (g x) + n) (sum-map g f l)
+
 module _ (b : Ledger) (v : View) (m : List ℕ) (r : Related b v m) where
   -- ## Unlink
 
@@ -70,6 +78,7 @@ module _ (b : Ledger) (v : View) (m : List ℕ) (r : Related b v m) where
         events = same-read b v m r DONE (v .queue) (b .events) refl (r .events);
         last = r .last ∙ sym (same-count saysLinked (b .heard) DONE refl);
         registers = λ k. r .registers k ∙ sym (same-register (b .heard) DONE refl k);
+        counters = r .counters;
         memory = refl;
       }
 
@@ -173,6 +182,13 @@ module _ (b : Ledger) (v : View) (m : List ℕ) (r : Related b v m) where
 
   -- ## Append
 
+  -- what is taken counts
+  counted-found : (e : Entry) → handling.overflowCounted (v .counters) e (shown (appendWalk b e)) ≡ overflowCounted b e
+  counted-found e =
+      ap (λ (cs : List Counter). counted cs (e .counter) (sumOf (λ (h : Header). overflowAmount (e .options) (h .accepted)) (headersAt b (appendWalk b e .found))))
+      (r .counters)
+      ∙ ap (counted (b .counters) (e .counter)) (sum-map (headerAt (b .arrivals)) (λ h. overflowAmount (e .options) (h .accepted)) (appendWalk b e .found))
+
   module _ (e : Entry) where
     abbrev AppendKept : Outcome View Unit → Type 0
     AppendKept o = Kept b m (calls.append e) (o .answer) (o .state) m
@@ -190,6 +206,7 @@ module _ (b : Ledger) (v : View) (m : List ℕ) (r : Related b v m) where
           events = issued-added TAKEN _ _ refl (handed-events e w p 0);
           last = r .last ∙ sym (same-count saysLinked (b .heard) TAKEN refl);
           registers = λ k. r .registers k ∙ sym (same-register (b .heard) TAKEN refl k);
+          counters = counted-found e;
           memory = refl;
         }
     append-by false f =
@@ -204,6 +221,7 @@ module _ (b : Ledger) (v : View) (m : List ℕ) (r : Related b v m) where
           events = issued-added (LINKED h) _ _ refl (ap (λ is. is ++ (linkEvent e h ∷ [])) (handed-events e w p h));
           last = ap (λ n. n + 1) (r .last) ∙ sym (one-more saysLinked (b .heard) (LINKED h) refl);
           registers = λ k. r .registers k ∙ sym (same-register (b .heard) (LINKED h) refl k);
+          counters = counted-found e;
           memory = refl;
         }
 
@@ -263,6 +281,7 @@ module _ (b : Ledger) (v : View) (m : List ℕ) (r : Related b v m) where
           events = issued-added a _ _ refl (λ i. search-events b e (w .found) i ++ no-match-events b e w i);
           last = r .last ∙ sym (same-count saysLinked (b .heard) a refl);
           registers = λ k. r .registers k ∙ sym (same-register (b .heard) a refl k);
+          counters = r .counters;
           memory = refl;
         }
     search-by false f =
@@ -277,6 +296,7 @@ module _ (b : Ledger) (v : View) (m : List ℕ) (r : Related b v m) where
           events = issued-added a _ _ refl (λ i. handed-events e w p 0 i ++ no-match-events b e w i);
           last = r .last ∙ sym (same-count saysLinked (b .heard) a refl);
           registers = λ k. r .registers k ∙ sym (same-register (b .heard) a refl k);
+          counters = r .counters;
           memory = refl;
         }
 

@@ -32,7 +32,7 @@ use Rattle.early.specs.Handling as handling
 use Rattle.portals.specs.Answers.{Answer}
 use Rattle.portals.specs.EventRead.{oldestOf}
 use Rattle.conservation.specs.Steps.{count, eventIn, eventsRead}
-use Rattle.conservation.specs.Ledger.{stillQueued, Message, Fated, Fates, Ledger, Effect, nothing, delivery, link, taken, remove, look, delete, messageAt, headerAt, autoFreeEvents, overflowEvents, walkEvents, noMatchEvents, issuedBy, queuedAs, queuedOf, addBy, addEvent, addAll, appendWalk, searchWalk, headersAt}
+use Rattle.conservation.specs.Ledger.{stillQueued, Message, Fated, Fates, Ledger, Effect, nothing, delivery, link, taken, remove, look, delete, change, messageAt, headerAt, autoFreeEvents, overflowEvents, walkEvents, noMatchEvents, issuedBy, queuedAs, queuedOf, addBy, addEvent, addAll, appendWalk, searchWalk, headersAt}
 use Rattle.conservation.specs.Conserved.{All, isOverflow, handOutsShown}
 use Rattle.conservation.proofs.Relations.{Home, SameEvents}
 
@@ -289,3 +289,4 @@ overflow-shown b (delete e) =
     let w = searchWalk b e in
     shown-both (walkEvents b e 0 w) (noMatchEvents e (w .found)) (hand-outs-shown b e 0 (w .found) (w .left)) (closing-hidden e (w .found))
     ∙ append-nil _
+overflow-shown b (change k f) = refl

@@ -192,6 +192,7 @@ begins size new m is good fits = record {
     events = record { events = refl; mark = refl };
     last = refl;
     registers = λ k. zero-register (eqb k 0) (eqb k 1);
+    counters = refl;
   };
 }
 
@@ -246,6 +247,7 @@ module _ (b : Ledger) (t : Target) (m : List ℕ) (h : At b t m) where
         mark = ap (λ (v : View). v .queue .lost) (i .1) ∙ r .events .mark;
         overflow = ap (select isOverflow) events;
         registers = λ k _. ap (λ (v : View). registerAt (v .registers) k) (i .1) ∙ r .registers k;
+        counters = ap (λ (v : View). v .counters) (i .1) ∙ r .counters;
       }
 
 pub conservation : Conservation

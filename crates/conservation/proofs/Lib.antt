@@ -13,3 +13,4 @@ pub mod ByteLaws
 pub mod StayLaws
 pub mod EveryList
 pub mod ExampleLaws
+pub mod ImpostorLaws

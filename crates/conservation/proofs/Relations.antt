@@ -14,7 +14,7 @@ use Rattle.state.specs.declared.layout.HeldEntry.{HeldEntry}
 use Rattle.state.specs.declared.layout.Event.{Event}
 use Rattle.state.specs.declared.layout.Target.{Target}
 use Rattle.conservation.specs.Steps.{Step, called, elsewhere, wrote, count, eventsRead, saysLinked}
-use Rattle.conservation.specs.Ledger.{Message, Fates, Ledger, Effect, nothing, delivery, link, taken, remove, look, delete, callEffect, hear, messageAt, headersAt, queuedOf}
+use Rattle.conservation.specs.Ledger.{Message, Fates, Ledger, Effect, nothing, delivery, link, taken, remove, look, delete, change, callEffect, hear, messageAt, headersAt, queuedOf}
 use Rattle.conservation.specs.Runs.{Line}
 use Rattle.conservation.specs.Answering.{registerOf}
 use Rattle.conservation.specs.Conserved.{All, Right, times, ascends}
@@ -50,6 +50,7 @@ pub record Related (b : Ledger) (v : View) (m : List ℕ) : Type 0 where
   pub events : SameEvents (eventsRead (b .heard)) (v .queue) (b .events)
   pub last : v .last ≡ count saysLinked (b .heard)
   pub registers : (k : ℕ) → registerAt (v .registers) k ≡ registerOf (b .heard) k
+  pub counters : v .counters ≡ b .counters
 
 -- ## A step
 
@@ -63,6 +64,7 @@ memoryBy m (taken e) = m
 memoryBy m (remove handle) = m
 memoryBy m (look e) = m
 memoryBy m (delete e) = m
+memoryBy m (change k f) = m
 
 abbrev pub Leaves : Ledger → List ℕ → Step → List ℕ → Type 0
 Leaves b m (called c answer) m′ = m′ ≡ memoryBy m (callEffect (b .linked) c answer)

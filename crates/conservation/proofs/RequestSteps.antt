@@ -11,6 +11,7 @@ use lib.Dec.{eqb, ltb}
 use lib.ListN.{length, take, length-map, length-append, length-take, length-drop, take-append-drop}
 use Rattle.matching.specs.Request.{badRequestArgument, arrivalOf, offsetUsed, available, accepted, place, verdictOn, ackAsked, ackGiven}
 use Rattle.matching.specs.EarlyMessages.{takesHeaders}
+use Rattle.matching.specs.Counters.{commAmount}
 use Rattle.matching.specs.declared.layout.Request.{Request}
 use Rattle.matching.specs.declared.refusals.Refusal.{Refusal}
 use Rattle.matching.specs.declared.refusals.Refusal.the-variants as Refusal
@@ -23,12 +24,15 @@ use Rattle.state.specs.Sizes.{HEADERS}
 use Rattle.state.specs.Lists.{any, overwritten}
 use Rattle.state.specs.View.{View, entryAt, isLinked, withRegisters, zeroEntry}
 use Rattle.state.specs.Soundness.{entrySound}
+use Rattle.state.specs.Counters.{counted}
 use Rattle.state.specs.Registers.{registerAt, requestDropped, permissionViolated, operationViolated}
 use Rattle.state.specs.declared.layout.HeldEntry.{HeldEntry}
+use Rattle.state.specs.declared.layout.Counter.{Counter}
 use Rattle.state.specs.declared.layout.Registers.{Registers}
 use Rattle.state.proofs.ListLaws.{cond-cases, every-at}
 use Rattle.state.proofs.SoundLaws.{sound-facts, entry-facts, region-fits}
 use Rattle.requests.specs.Choice.{choose}
+use Rattle.requests.specs.Plan as requests
 use Rattle.requests.specs.Plan.{message, plan, entriesAfter, requestEvents, bytesPut}
 use Rattle.requests.specs.Decision.{hasRoom, decideBy, decideOn, decide, ifDelivered, requestState}
 use Rattle.requests.specs.declared.choice.Choice.{Choice}
@@ -42,7 +46,7 @@ use Rattle.portals.specs.Calls.{Call}
 use Rattle.portals.specs.Calls as calls
 use Rattle.portals.proofs.GuardLaws.{guard-cases, unless-map}
 use Rattle.conservation.specs.Steps.{called, elsewhere, count, eventIn, saysLinked, saysDropped, saysPerm, saysOp, saysPriority, saysOverflow}
-use Rattle.conservation.specs.Ledger.{Ledger, nothing, delivery, chosen, deliveryTo, requestEffect, callEffect, linkedAfter, messageOf, messageAt, hear}
+use Rattle.conservation.specs.Ledger.{countersAfter, Ledger, nothing, delivery, chosen, deliveryTo, requestEffect, callEffect, linkedAfter, messageOf, messageAt, hear}
 use Rattle.conservation.specs.Runs.{lineElsewhere}
 use Rattle.conservation.specs.Answering.{answerOf, answerOn, expectedOfRequest, registerOf, AnswerRight}
 use Rattle.conservation.specs.Answering as ledger
@@ -150,6 +154,7 @@ module _ (b : Ledger) (v : View) (m : List ℕ) (r : Related b v m) (c : Call) (
         events = same-read b v m r answer (v .queue) (b .events) event (r .events);
         last = r .last ∙ sym (same-count saysLinked (b .heard) answer handle);
         registers = counted;
+        counters = r .counters;
         memory = untouched;
       };
       size = ap length (untouched);
@@ -215,6 +220,12 @@ module _ (b : Ledger) (v : View) (m : List ℕ) (r : Related b v m) (c : Call) (
         let t : length (take (accepted (x .entry) (x .local) a) payload) ≤ accepted (x .entry) (x .local) a = simp length-take (omega arith) in
         overwritten-length m (take (accepted (x .entry) (x .local) a) payload) (place (x .entry) (x .local) a) (omega arith)
 
+    -- it counts on the chosen entry
+    counted-here : requests.countersAfter (v .counters) (plan (v .entries) (q .portal) a k) ≡ countersAfter b (delivery (q .portal) a payload x)
+    unfolding message
+    counted-here =
+        ap (λ (cs : List Counter). counted cs (x .entry .counter) (commAmount (x .entry .options) (accepted (x .entry) (x .local) a))) (r .counters)
+
     -- PRIORITY or OVERFLOW
     delivered-by : (answer : Answer) → eventIn answer ≡ []
         → saysLinked answer ≡ false
@@ -233,6 +244,7 @@ module _ (b : Ledger) (v : View) (m : List ℕ) (r : Related b v m) (c : Call) (
           events = issued-added b v m r answer (requestEvents (plan (v .entries) (q .portal) a k)) _ event refl;
           last = r .last ∙ sym (same-count saysLinked (b .heard) answer handle);
           registers = λ n. r .registers n ∙ sym (same-register (b .heard) answer counts n);
+          counters = counted-here;
           memory = written k;
         };
         size = ap length (written k) ∙ written-length;
@@ -374,6 +386,7 @@ module _ (b : Ledger) (v : View) (m : List ℕ) (r : Related b v m) (q : Request
           events = same-read b v m r a (v .queue) (b .events) refl (r .events);
           last = r .last ∙ sym (same-count saysLinked (b .heard) a refl);
           registers = λ k. r .registers k ∙ sym (same-register (b .heard) a refl k);
+          counters = r .counters;
         });
         right = record { answer = e; overflow = refl };
         memory = refl;

@@ -21,6 +21,8 @@ use Rattle.matching.proofs.RequestLaws.{place-start, place-end}
 use Rattle.state.specs.Lists.{every, any, isEmpty}
 use Rattle.state.specs.View.{View, isLinked, hasHandle}
 use Rattle.state.specs.Soundness.{distinct, entrySound}
+use Rattle.state.specs.Counters.{increased}
+use Rattle.state.specs.declared.layout.Counter.{Counter}
 use Rattle.state.specs.declared.layout.HeldEntry.{HeldEntry}
 use Rattle.state.specs.declared.layout.Target.{Target}
 use Rattle.state.proofs.ListLaws.{both, neither, or-other, cond-cases, part-select, part-every}
@@ -33,7 +35,7 @@ use Rattle.portals.specs.Answers.{Answer, LINKED, TAKEN, refused}
 use Rattle.portals.specs.Calls.{Call, append, unlink, search, put, get, readEvent, setCounter, increment, readCounter, readRegister, ready, poll}
 use Rattle.portals.proofs.GuardLaws.{guard-cases}
 use Rattle.conservation.specs.Steps.{Step, called, elsewhere, wrote, word, count, handleIn, saysLinked, saysSearched, saysPriority, saysOverflow, saysTaken, saysDone}
-use Rattle.conservation.specs.Ledger.{Message, Ledger, Effect, nothing, delivery, link, taken, remove, look, delete, empty, firstOf, otherwise, chosen, deliveryTo, requestEffect, callEffect, effectOf, withLocal, moved, without, linkedAfter, messageOf, arrivalsOf, appendWalk, effectHeard, hear}
+use Rattle.conservation.specs.Ledger.{Message, Ledger, Effect, nothing, delivery, link, taken, remove, look, delete, change, empty, firstOf, otherwise, chosen, deliveryTo, requestEffect, callEffect, effectOf, withLocal, moved, without, linkedAfter, messageOf, arrivalsOf, appendWalk, effectHeard, hear}
 use Rattle.conservation.specs.Runs.{Line, Stepped, Ran}
 use Rattle.conservation.specs.Runs as Runs
 use Rattle.conservation.specs.Answering.{testsOf, expectedOfAppend, AnswerRight}
@@ -140,7 +142,7 @@ module _ (size : ℕ) (b : Ledger) (answer : Answer) (P : Effect → Type 0) (no
     (delivered : (portal : ℕ) (a : Arrival) (payload : List ℕ) (y : HeldEntry) → In y (b .linked) → P (delivery portal a payload y))
     (linked : (e : Entry) (handle : ℕ) → handle ≡ count saysLinked (b .heard) + 1 → P (link e handle))
     (held : (e : Entry) → P (taken e)) (removed : (handle : ℕ) → P (remove handle))
-    (looked : (e : Entry) → P (look e)) (deleted : (e : Entry) → P (delete e)) where
+    (looked : (e : Entry) → P (look e)) (deleted : (e : Entry) → P (delete e)) (changed : (k : ℕ) (f : Counter → Counter) → P (change k f)) where
   delivery-cases : (portal : ℕ) (a : Arrival) (payload : List ℕ) (o : Option HeldEntry) → Among (b .linked) o → P (deliveryTo portal a payload o)
   delivery-cases portal a payload none i = no-effect
   delivery-cases portal a payload (some y) i = delivered portal a payload y i
@@ -165,8 +167,14 @@ module _ (size : ℕ) (b : Ledger) (answer : Answer) (P : Effect → Type 0) (no
   effect-cases (put q payload) right = request-cases (q .portal) (arrivalOf q Kind.Put (length payload)) payload
   effect-cases (get q reply) right = request-cases (q .portal) (arrivalOf q Kind.Get (length reply)) []
   effect-cases readEvent right = no-effect
-  effect-cases (setCounter x) right = no-effect
-  effect-cases (increment x) right = no-effect
+  effect-cases (setCounter x) right =
+      cond-cases P (saysDone answer) (change (x .counter) (λ c. record { success = x .success; failure = x .failure })) nothing
+      (λ k. changed (x .counter) _)
+      (λ k. no-effect)
+  effect-cases (increment x) right =
+      cond-cases P (saysDone answer) (change (x .counter) (λ c. increased c (x .success) (x .failure))) nothing
+      (λ k. changed (x .counter) _)
+      (λ k. no-effect)
   effect-cases (readCounter k) right = no-effect
   effect-cases (readRegister k) right = no-effect
   effect-cases (ready x) right = no-effect
@@ -328,6 +336,7 @@ module _ (x : Message) (b : Ledger) (v : View) (m : List ℕ) (r : Related b v m
       (λ handle e. absurd (nil≢cons e))
       (λ f e. absurd (nil≢cons e))
       (λ f e. absurd (nil≢cons e))
+      (λ k f e. absurd (nil≢cons e))
 
 -- it stands as it arrives
 pub stands-arrive : (x : Message) (b : Ledger) (v : View) (m m′ : List ℕ) (v′ : View) (l : Line) → Related b v m → Follows b m l v′ m′
@@ -413,6 +422,7 @@ module _ (x : Message) (b : Ledger) (v : View) (m : List ℕ) (r : Related b v m
       (λ handle. (s .bytes, all-without (Own x) (Own x) handle (λ z n p. p) (b .linked) (s .own)))
       (λ f. (s .bytes, s .own))
       (λ f. (s .bytes, s .own))
+      (λ k f. (s .bytes, s .own))
 
 -- it stands after each step that does not disturb it
 pub stands-on : (x : Message) (b : Ledger) (v v′ : View) (m m′ : List ℕ) (l : Line) → Related b v m → Follows b m l v′ m′

@@ -16,7 +16,7 @@ use Rattle.portals.specs.Calls.{Call, stateAfter, answerTo}
 use Rattle.portals.specs.Calls as calls
 use Rattle.portals.proofs.CallLaws.{call-laws}
 use Rattle.conservation.specs.Steps.{called, count, eventIn, eventsRead, saysLinked, saysDropped, saysPerm, saysOp}
-use Rattle.conservation.specs.Ledger.{Ledger, Effect, Fates, nothing, callEffect, linkedAfter, arrivalsOf, waitingAfter, handOuts, issuedBy, addAll, effectHeard}
+use Rattle.conservation.specs.Ledger.{countersAfter, Ledger, Effect, Fates, nothing, callEffect, linkedAfter, arrivalsOf, waitingAfter, handOuts, issuedBy, addAll, effectHeard}
 use Rattle.conservation.specs.Runs.{line}
 use Rattle.conservation.specs.Answering.{AnswerRight, countedIn, registerOf}
 use Rattle.conservation.proofs.Relations.{SameEvents, Related, memoryBy, Follows}
@@ -66,6 +66,7 @@ pub record Kept (b : Ledger) (m : List ℕ) (c : Call) (a : Answer) (v′ : View
   pub events : SameEvents (eventsRead (b .heard ++ (a ∷ []))) (v′ .queue) (addAll (length (eventsRead (b .heard))) (b .events) (issuedBy b d))
   pub last : v′ .last ≡ count saysLinked (b .heard ++ (a ∷ []))
   pub registers : (k : ℕ) → registerAt (v′ .registers) k ≡ registerOf (b .heard ++ (a ∷ [])) k
+  pub counters : v′ .counters ≡ countersAfter b d
   pub memory : m′ ≡ memoryBy m d
 
 module _ (b : Ledger) (v : View) (m : List ℕ) (r : Related b v m) where
@@ -85,6 +86,7 @@ module _ (b : Ledger) (v : View) (m : List ℕ) (r : Related b v m) where
       events = k .events;
       last = k .last;
       registers = k .registers;
+      counters = k .counters;
     });
     right = record { answer = answer; overflow = overflow-shown b (callEffect (b .linked) c (answerTo v m c)) };
     memory = k .memory ∙ ap (memoryBy m) (sym (k .effect));
@@ -102,23 +104,17 @@ module _ (b : Ledger) (v : View) (m : List ℕ) (r : Related b v m) where
       → SameEvents (eventsRead (b .heard ++ (a ∷ []))) q s
   same-read a q s e t = subst (λ reads. SameEvents reads q s) (sym (same-reads (b .heard) a e)) t
 
-  -- a plain answer, which changes no more than the counters
-  pub plain-kept : (c : Call) (a : Answer) (v′ : View) → Plain a
-      → callEffect (b .linked) c a ≡ nothing
-      → v′ .entries ≡ v .entries
-      → v′ .headers ≡ v .headers
-      → v′ .queue ≡ v .queue
-      → v′ .last ≡ v .last
-      → v′ .registers ≡ v .registers
-      → Kept b m c a v′ m
-  plain-kept c a v′ p d entries headers queue last registers = record {
+  -- a plain answer of a call that only reads, or is refused
+  pub plain-kept : (c : Call) (a : Answer) → Plain a → callEffect (b .linked) c a ≡ nothing → Kept b m c a v m
+  plain-kept c a p d = record {
     d = nothing;
     effect = d;
-    linked = ap (select isLinked) entries ∙ r .linked;
-    messages = rw (entries, headers) same-messages;
-    events = rw queue (same-read a (v .queue) (b .events) (p .event) (r .events));
-    last = last ∙ r .last ∙ sym (same-count saysLinked (b .heard) a (p .handle));
-    registers = λ k. ap (λ rs. registerAt rs k) registers ∙ r .registers k ∙ sym (same-register (b .heard) a (p .unregistered) k);
+    linked = r .linked;
+    messages = same-messages;
+    events = same-read a (v .queue) (b .events) (p .event) (r .events);
+    last = r .last ∙ sym (same-count saysLinked (b .heard) a (p .handle));
+    registers = λ k. r .registers k ∙ sym (same-register (b .heard) a (p .unregistered) k);
+    counters = r .counters;
     memory = refl;
   }
 
@@ -139,5 +135,4 @@ module _ (b : Ledger) (v : View) (m : List ℕ) (r : Related b v m) where
   -- a refusal
   pub refused-kept : (c : Call) (why : Refusal) → Kept b m c (refused why) v m
   refused-kept c why =
-      plain-kept c (refused why) v (record { event = refl; handle = refl; unregistered = refl })
-      (refused-effect c why) refl refl refl refl refl
+      plain-kept c (refused why) (record { event = refl; handle = refl; unregistered = refl }) (refused-effect c why)

@@ -22,15 +22,16 @@ use Rattle.matching.specs.declared.request.Verdict.{Verdict}
 use Rattle.matching.specs.declared.request.Verdict.the-variants as Verdict
 use Rattle.state.specs.Lists.{any, isEmpty}
 use Rattle.state.specs.Sizes.{SLOTS, HEADERS, LAST-HANDLE}
+use Rattle.state.specs.Counters.{counterAt}
 use Rattle.state.specs.View.{hasHandle}
 use Rattle.state.specs.Soundness.{names}
 use Rattle.state.specs.declared.layout.HeldEntry.{HeldEntry}
 use Rattle.state.specs.declared.layout.Header.{Header}
 use Rattle.early.specs.Walk.{usesOnce}
 use Rattle.portals.specs.Refusals.{Condition, goodArguments, unlessRefused}
-use Rattle.portals.specs.Answers.{Answer, LINKED, TAKEN, DONE, SEARCHED, PRIORITY, OVERFLOW, DROPPED, PERM, OP, REGISTER, refused}
+use Rattle.portals.specs.Answers.{Answer, LINKED, TAKEN, DONE, SEARCHED, PRIORITY, OVERFLOW, DROPPED, PERM, OP, COUNTER, REGISTER, READY, NOT-READY, refused}
 use Rattle.portals.specs.EventRead.{oldestOf}
-use Rattle.portals.specs.CounterCalls.{counterTests, badPollArgument, badRegisterArgument}
+use Rattle.portals.specs.CounterCalls.{counterTests, isReady, badPollArgument, reachedFrom, reachedAnswer, badRegisterArgument}
 use Rattle.portals.specs.Calls.{Call, append, unlink, search, put, get, readEvent, setCounter, increment, readCounter, readRegister, ready, poll}
 use Rattle.conservation.specs.Steps.{Step, called, elsewhere, wrote, count, eventsRead, saysLinked, saysDropped, saysPerm, saysOp}
 use Rattle.conservation.specs.Ledger.{Ledger, chosen, searchWalk, appendWalk, stillQueued, keptWithout, headersAt}
@@ -114,23 +115,23 @@ registerOf heard k = count (countedIn k) heard % 2 ^ 64
 
 -- ## All calls
 
--- what a call answers if it is not refused. The ledger has no counters: what they are said to hold it takes as it is answered
-abbrev pub expected : Ledger → Call → Answer → Answer
-expected b (append e) answer = expectedOfAppend b e
-expected b (unlink handle) answer = DONE
-expected b (search e) answer = SEARCHED (length (searchWalk b e .found))
-expected b (put q payload) answer = expectedOfRequest b q (arrivalOf q Kind.Put (length payload))
-expected b (get q reply) answer = expectedOfRequest b q (arrivalOf q Kind.Get (length reply))
-expected b readEvent answer = oldestOf (stillQueued (length (eventsRead (b .heard))) (b .events))
-expected b (setCounter x) answer = DONE
-expected b (increment x) answer = DONE
-expected b (readCounter k) answer = answer
-expected b (readRegister k) answer = REGISTER (registerOf (b .heard) k)
-expected b (ready x) answer = answer
-expected b (poll ks tests) answer = answer
+-- what a call answers if it is not refused
+abbrev pub expected : Ledger → Call → Answer
+expected b (append e) = expectedOfAppend b e
+expected b (unlink handle) = DONE
+expected b (search e) = SEARCHED (length (searchWalk b e .found))
+expected b (put q payload) = expectedOfRequest b q (arrivalOf q Kind.Put (length payload))
+expected b (get q reply) = expectedOfRequest b q (arrivalOf q Kind.Get (length reply))
+expected b readEvent = oldestOf (stillQueued (length (eventsRead (b .heard))) (b .events))
+expected b (setCounter x) = DONE
+expected b (increment x) = DONE
+expected b (readCounter k) = COUNTER (counterAt (b .counters) k .success) (counterAt (b .counters) k .failure)
+expected b (readRegister k) = REGISTER (registerOf (b .heard) k)
+expected b (ready x) = cond (isReady (counterAt (b .counters) (x .counter)) (x .test)) READY NOT-READY
+expected b (poll ks tests) = reachedAnswer (reachedFrom (b .counters) 0 ks tests)
 
 -- the answer of a step is the ledger's; BAD_MEMORY: "put or get: memory length differs from the state's"
 abbrev pub AnswerRight : ℕ → Ledger → Step → Type 0
-AnswerRight size b (called c answer) = answer ≡ unlessRefused refused (testsOf size b c) (expected b c answer)
+AnswerRight size b (called c answer) = answer ≡ unlessRefused refused (testsOf size b c) (expected b c)
 AnswerRight size b (elsewhere n answer) = answer ≡ refused Refusal.BadMemory
 AnswerRight size b (wrote m m′) = Unit

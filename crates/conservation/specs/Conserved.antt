@@ -20,7 +20,7 @@ use Rattle.state.specs.declared.layout.Target.{Target}
 use Rattle.portals.specs.Promises.{NewMet}
 use Rattle.portals.specs.declared.answers.NewDone.{NewDone}
 use Rattle.conservation.specs.Steps.{count, saysLinked, eventsRead, saysLinked}
-use Rattle.conservation.specs.Ledger.{Message, Ledger, Effect, nothing, delivery, link, taken, remove, look, delete, empty, hear, effectOf, messageAt, headerAt, headersAt, handOuts, issuedBy, queuedOf}
+use Rattle.conservation.specs.Ledger.{Message, Ledger, Effect, nothing, delivery, link, taken, remove, look, delete, change, empty, hear, effectOf, messageAt, headerAt, headersAt, handOuts, issuedBy, queuedOf}
 use Rattle.conservation.specs.Runs.{Line, Ran}
 use Rattle.conservation.specs.Answering.{AnswerRight, registerOf}
 use Rattle.conservation.specs.Bytes.{ledgerOf, Stay, atArrival, Undisturbed, managesLocal, BytesStand}
@@ -44,6 +44,7 @@ handOutsShown b (taken e) = map (λ n. overflowEvent (headerAt (b .arrivals) n) 
 handOutsShown b (remove handle) = []
 handOutsShown b (look e) = []
 handOutsShown b (delete e) = map (λ n. overflowEvent (headerAt (b .arrivals) n) e 0) (handOuts b (delete e))
+handOutsShown b (change k f) = []
 
 -- what is right of a step, with the ledger as the step begins
 pub record Right (b : Ledger) (l : Line) : Type 0 where
@@ -102,6 +103,7 @@ pub record Agrees (b : Ledger) (t : Target) (m : List ℕ) : Type 0 where
   pub overflow : select isOverflow (eventsRead (b .heard) ++ viewOf t .queue .events) ≡ select isOverflow (queuedOf (b .events .all))
   -- "Each status register equals, modulo 2^64, the number of answers of its kind."
   pub registers : (k : ℕ) → k ≤ 2 → registerAt (viewOf t .registers) k ≡ registerOf (b .heard) k
+  pub counters : viewOf t .counters ≡ b .counters
 
 -- what holds of the ledger alone, whatever was answered: the numbers of the arrivals
 pub record LedgerRight (b : Ledger) : Type 0 where

@@ -5,21 +5,24 @@ use mathlib.Core.List.{List, [], _∷_, _++_, map}
 use mathlib.Core.Option.{Option, none, some}
 use Prim.Native.Nat.{ℕ}
 use lib.Dec.{eqb, ltb}
-use lib.ListN.{length, take, drop, getD}
+use lib.ListN.{length, take, drop, set, getD, replicate}
 use Rattle.matching.specs.Request.{arrivalOf, accepted, localAfter, unlinks}
 use Rattle.matching.specs.EarlyMessages.{takesHeaders}
+use Rattle.matching.specs.Counters.{commAmount, overflowAmount}
 use Rattle.matching.specs.declared.layout.Entry.{Entry}
 use Rattle.matching.specs.declared.request.Arrival.{Arrival}
 use Rattle.matching.specs.declared.request.Kind.{Kind}
 use Rattle.matching.specs.declared.request.Kind.the-variants as Kind
-use Rattle.state.specs.Sizes.{EVENTS}
-use Rattle.state.specs.Lists.{any, selectNot}
-use Rattle.state.specs.View.{hasHandle, zeroEntry, zeroHeader}
+use Rattle.state.specs.Sizes.{EVENTS, COUNTERS}
+use Rattle.state.specs.Lists.{any, selectNot, sumOf}
+use Rattle.state.specs.View.{hasHandle, zeroEntry, zeroHeader, zeroCounter}
 use Rattle.state.specs.Soundness.{names}
+use Rattle.state.specs.Counters.{counterAt, increased, counted}
 use Rattle.state.specs.Events.{Issued, arrivalEvent, autoUnlinkEvent, overflowEvent, autoFreeEvent, linkEvent, searchEvent, noMatchEvent, isDisabled, withGap, gapOf}
 use Rattle.state.specs.declared.layout.HeldEntry.{HeldEntry}
 use Rattle.state.specs.declared.layout.Header.{Header}
 use Rattle.state.specs.declared.layout.Event.{Event}
+use Rattle.state.specs.declared.layout.Counter.{Counter}
 use Rattle.requests.specs.Choice.{isCandidate}
 use Rattle.requests.specs.Plan.{message}
 use Rattle.early.specs.Walk.{Walk, walk, noWalk, usesOnce, fitsHeader}
@@ -64,11 +67,13 @@ pub record Ledger : Type 0 where
   pub waiting : List ℕ
   pub handed : List ℕ
   pub events : Fates
+  -- document 01's book has none: they are here so that every answer can be held against the ledger
+  pub counters : List Counter
   -- every answer
   pub heard : List Answer
 
 abbrev pub empty : Ledger
-empty = record { linked = []; arrivals = []; waiting = []; handed = []; events = record { all = []; mark = 0 }; heard = [] }
+empty = record { linked = []; arrivals = []; waiting = []; handed = []; events = record { all = []; mark = 0 }; counters = replicate COUNTERS zeroCounter; heard = [] }
 
 -- the message of a number
 abbrev pub messageAt : List Message → ℕ → Message
@@ -97,6 +102,8 @@ pub data Effect : Type 0 where
   -- SEARCHED, in mode 0 and in mode 1
   look : Entry → Effect
   delete : Entry → Effect
+  -- DONE of a counter call: the counter, and what becomes of it
+  change : ℕ → (Counter → Counter) → Effect
 
 module _ {A : Type 0} where
   abbrev pub firstOf : (A → Bool) → List A → Option A
@@ -131,8 +138,10 @@ callEffect linked (put q payload) answer =
     requestEffect linked (q .portal) (arrivalOf q Kind.Put (length payload)) payload answer
 callEffect linked (get q reply) answer = requestEffect linked (q .portal) (arrivalOf q Kind.Get (length reply)) [] answer
 callEffect linked readEvent answer = nothing
-callEffect linked (setCounter x) answer = nothing
-callEffect linked (increment x) answer = nothing
+callEffect linked (setCounter x) answer =
+    cond (saysDone answer) (change (x .counter) (λ c. record { success = x .success; failure = x .failure })) nothing
+callEffect linked (increment x) answer =
+    cond (saysDone answer) (change (x .counter) (λ c. increased c (x .success) (x .failure))) nothing
 callEffect linked (readCounter k) answer = nothing
 callEffect linked (readRegister k) answer = nothing
 callEffect linked (ready x) answer = nothing
@@ -165,6 +174,7 @@ linkedAfter l (taken e) = l
 linkedAfter l (remove handle) = without handle l
 linkedAfter l (look e) = l
 linkedAfter l (delete e) = l
+linkedAfter l (change k f) = l
 
 -- ## The messages
 
@@ -185,6 +195,7 @@ arrivalsOf (taken e) = []
 arrivalsOf (remove handle) = []
 arrivalsOf (look e) = []
 arrivalsOf (delete e) = []
+arrivalsOf (change k f) = []
 
 module _ (b : Ledger) where
   -- "An append or search that is not refused walks the book's waiting messages as above"
@@ -204,6 +215,7 @@ module _ (b : Ledger) where
   handOuts (remove handle) = []
   handOuts (look e) = []
   handOuts (delete e) = searchWalk e .found
+  handOuts (change k f) = []
 
   abbrev pub waitingAfter : Effect → List ℕ
   waitingAfter nothing = b .waiting
@@ -214,6 +226,7 @@ module _ (b : Ledger) where
   waitingAfter (remove handle) = b .waiting
   waitingAfter (look e) = b .waiting
   waitingAfter (delete e) = searchWalk e .left
+  waitingAfter (change k f) = b .waiting
 
 -- ## The events
 
@@ -254,6 +267,7 @@ issuedBy b (remove handle) = []
 issuedBy b (look e) =
     map (λ n. searchEvent e (headerAt (b .arrivals) n)) (searchWalk b e .found) ++ noMatchEvents e (searchWalk b e .found)
 issuedBy b (delete e) = walkEvents b e 0 (searchWalk b e) ++ noMatchEvents e (searchWalk b e .found)
+issuedBy b (change k f) = []
 
 -- the events that were queued, as they were queued
 abbrev pub queuedAs : Event → Fate → List Event
@@ -284,6 +298,25 @@ abbrev pub addAll : ℕ → Fates → List Issued → Fates
 addAll read s [] = s
 addAll read s (i ∷ is) = addAll read (addEvent read s i) is
 
+-- ## The counters
+
+-- "CT_OVERFLOW headers taken by append", on the appended entry's counter
+abbrev pub overflowCounted : Ledger → Entry → List Counter
+overflowCounted b e =
+    counted (b .counters) (e .counter) (sumOf (λ n. overflowAmount (e .options) (headerAt (b .arrivals) n .accepted)) (appendWalk b e .found))
+
+-- "CT_COMM counts accepted requests"; a search counts nothing
+abbrev pub countersAfter : Ledger → Effect → List Counter
+countersAfter b nothing = b .counters
+countersAfter b (delivery portal a payload x) =
+    counted (b .counters) (x .entry .counter) (commAmount (x .entry .options) (accepted (x .entry) (x .local) a))
+countersAfter b (link e handle) = overflowCounted b e
+countersAfter b (taken e) = overflowCounted b e
+countersAfter b (remove handle) = b .counters
+countersAfter b (look e) = b .counters
+countersAfter b (delete e) = b .counters
+countersAfter b (change k f) = set (b .counters) k (f (counterAt (b .counters) k))
+
 -- ## The fold
 
 abbrev pub effectHeard : Ledger → Effect → List Answer → Ledger
@@ -293,6 +326,7 @@ effectHeard b d answers = record {
   waiting = waitingAfter b d;
   handed = b .handed ++ handOuts b d;
   events = addAll (length (eventsRead (b .heard))) (b .events) (issuedBy b d);
+  counters = countersAfter b d;
   heard = b .heard ++ answers;
 }
 

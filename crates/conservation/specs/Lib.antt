@@ -5,3 +5,4 @@ pub mod Answering
 pub mod Bytes
 pub mod Conserved
 pub mod Example
+pub mod Impostors
