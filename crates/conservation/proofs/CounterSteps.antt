@@ -172,5 +172,5 @@ module _ (b : Ledger) (v : View) (m : List ℕ) (r : Related b v m) where
       counters = r .counters;
     };
     right = record { answer = tt; overflow = overflow-shown b nothing };
-    memory = (refl, refl);
+    memory = (refl, (refl, e));
   }

@@ -32,7 +32,7 @@ use Rattle.conservation.specs.Ledger.{Ledger, empty, hear, messageAt, he
 use Rattle.conservation.specs.Runs.{Line, line, lineElsewhere, Stepped, Ran}
 use Rattle.conservation.specs.Runs as runs
 use Rattle.conservation.specs.Answering.{AnswerRight}
-use Rattle.conservation.specs.Bytes.{ledgerFrom}
+use Rattle.conservation.specs.Bytes.{ledgerFrom, Memories}
 use Rattle.conservation.specs.Conserved.{All, WaitsIn, Right, Throughout, atPortal, isOverflow, Agrees, Conservation}
 use Rattle.conservation.proofs.Relations.{Home, Follows, At, Reaches}
 use Rattle.conservation.proofs.StepLaws.{Kept, kept-follows}
@@ -41,7 +41,7 @@ use Rattle.conservation.proofs.EarlySteps as early
 use Rattle.conservation.proofs.RequestSteps.{Refused}
 use Rattle.conservation.proofs.RequestSteps as requests
 use Rattle.conservation.proofs.SlotLaws.{waits-in-own}
-use Rattle.conservation.proofs.StayLaws.{bytes-stand}
+use Rattle.conservation.proofs.StayLaws.{began, bytes-stand}
 
 -- ## A step
 
@@ -117,14 +117,14 @@ step b t t′ m m′ l h (runs.put {q = q} {payload = payload} r p) =
 step b t t′ m m′ l h (runs.putElsewhere lent {lent′} q payload r p e) =
     by-another b t m h (λ v. put v lent q payload) lent lent lent′ _ t′ p
     (requests.put-another b (h .view) m (h .related) q payload lent e)
-    (requests.elsewhere-follows b (h .view) m (h .related) q lent)
+    (requests.elsewhere-follows b (h .view) m (h .related) q lent e)
 step b t t′ m m′ l h (runs.get {q = q} {reply = reply} {reply′ = reply′} r p) =
     by-call b t m h (calls.get q reply) (λ v. get v m q reply) reply reply′ _ t′ p
     (stays b t m h (calls.get q reply) (requests.get-answered b (h .view) m (h .related) q reply) (requests.get-served b (h .view) m (h .related) q reply .kept))
 step b t t′ m m′ l h (runs.getElsewhere lent q {reply} {reply′} r p e) =
     by-another b t m h (λ v. get v lent q reply) lent reply reply′ _ t′ p
     (requests.get-another b (h .view) m (h .related) q reply lent e)
-    (requests.elsewhere-follows b (h .view) m (h .related) q lent)
+    (requests.elsewhere-follows b (h .view) m (h .related) q lent e)
 step b t t′ m m′ l h (runs.readEvent r p) =
     by-call b t m h calls.readEvent _ tt tt _ t′ p
     (stays b t m h calls.readEvent (counters.read-event-answered b (h .view) m (h .related)) (counters.read-event-kept b (h .view) m (h .related)))
@@ -151,16 +151,26 @@ step b t t′ m m′ l h (runs.host e) =
 
 -- ## A list of steps
 
-record Ends (b : Ledger) (log : List Line) (t : Target) (m : List ℕ) : Type 0 where
+record Ends (b : Ledger) (start : List ℕ) (log : List Line) (t : Target) (m : List ℕ) : Type 0 where
   at : At (ledgerFrom b log) t m
   each : Throughout Right b log
+  memories : Memories b start log m
 
-runs-on : (b : Ledger) (t t′ : Target) (m m′ : List ℕ) (log : List Line) → At b t m → Ran t m log t′ m′ → Ends b log t′ m′
-runs-on b t t′ m m′ log h runs.none = record { at = h; each = tt }
+runs-on : (b : Ledger) (t t′ : Target) (m m′ : List ℕ) (log : List Line) → At b t m → Ran t m log t′ m′ → Ends b m log t′ m′
+runs-on b t t′ m m′ log h runs.none = record { at = h; each = tt; memories = refl }
 runs-on b t t′ m m′ log h (runs.next {t′ = next} {m′ = left} {l = l} {ls = rest} s ran) =
     let f = step b t next m left l h s in
     let e = runs-on (hear b (l .step)) next t′ left m′ rest (record { view = f .view; is = f .is; related = f .follows .related }) ran in
-    record { at = e .at; each = (f .follows .right, e .each) }
+    let left-is = f .follows .memory .0 in
+    record {
+      at = e .at;
+      each = (f .follows .right, e .each);
+      memories = (
+        began s,
+        f .follows .memory .1,
+        subst (λ (n : List ℕ). Memories (hear b (l .step)) n rest m′) left-is (e .memories),
+      );
+    }
 
 -- ## From a new target
 
@@ -262,5 +272,6 @@ conservation s new start log t m made fits ran =
       };
       target = agrees (ledgerFrom empty log) t m (e .at);
       each = e .each;
+      memories = e .memories;
       bytes = bytes-stand step (new .target) t start m log h ran;
     }

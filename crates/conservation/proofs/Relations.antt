@@ -4,19 +4,19 @@ use mathlib.Core.Bool.{true, cond}
 use mathlib.Core.List.{List, _++_}
 use Prim.Native.Nat.{ℕ, _+_}
 use lib.Dec.{ltb}
-use lib.ListN.{length, take}
-use Rattle.matching.specs.Request.{accepted, place}
-use Rattle.state.specs.Lists.{every, select, overwritten}
+use lib.ListN.{length}
+use Rattle.state.specs.Lists.{every, select}
 use Rattle.state.specs.View.{View, EventQueue, isLinked}
 use Rattle.state.specs.Soundness.{soundView, seen, sound}
 use Rattle.state.specs.Registers.{registerAt}
 use Rattle.state.specs.declared.layout.HeldEntry.{HeldEntry}
 use Rattle.state.specs.declared.layout.Event.{Event}
 use Rattle.state.specs.declared.layout.Target.{Target}
-use Rattle.conservation.specs.Steps.{Step, called, elsewhere, wrote, count, eventsRead, saysLinked}
-use Rattle.conservation.specs.Ledger.{Message, Fates, Ledger, Effect, nothing, delivery, link, taken, remove, look, delete, change, callEffect, hear, messageAt, headersAt, queuedOf}
+use Rattle.conservation.specs.Steps.{Step, count, eventsRead, saysLinked}
+use Rattle.conservation.specs.Ledger.{Message, Fates, Ledger, hear, messageAt, headersAt, queuedOf}
 use Rattle.conservation.specs.Runs.{Line}
 use Rattle.conservation.specs.Answering.{registerOf}
+use Rattle.conservation.specs.Bytes.{memoryAfter, HostWrites}
 use Rattle.conservation.specs.Conserved.{All, Right, times, ascends}
 
 -- ## The parts
@@ -33,7 +33,7 @@ pub record Numbers (waiting handed : List ℕ) (total : ℕ) : Type 0 where
   pub sum : total ≡ length waiting + length handed
   pub once : (n : ℕ) → times n waiting + times n handed ≡ cond (ltb n total) 1 0
 
--- the events read, the queue, and what the ledger logs of events
+-- the events read, the queue, and what the ledger has of events
 pub record SameEvents (reads : List Event) (q : EventQueue) (s : Fates) : Type 0 where
   pub events : reads ++ q .events ≡ queuedOf (s .all)
   pub mark : q .lost ≡ s .mark
@@ -54,22 +54,9 @@ pub record Related (b : Ledger) (v : View) (m : List ℕ) : Type 0 where
 
 -- ## A step
 
--- the memory after a step: rule 5's bytes of a put, where it was delivered; a get has no payload
-abbrev pub memoryBy : List ℕ → Effect → List ℕ
-memoryBy m nothing = m
-memoryBy m (delivery portal a payload x) =
-    overwritten m (place (x .entry) (x .local) a) (take (accepted (x .entry) (x .local) a) payload)
-memoryBy m (link e handle) = m
-memoryBy m (taken e) = m
-memoryBy m (remove handle) = m
-memoryBy m (look e) = m
-memoryBy m (delete e) = m
-memoryBy m (change k f) = m
-
+-- the memory that a step leaves
 abbrev pub Leaves : Ledger → List ℕ → Step → List ℕ → Type 0
-Leaves b m (called c answer) m′ = m′ ≡ memoryBy m (callEffect (b .linked) c answer)
-Leaves b m (elsewhere n answer) m′ = m′ ≡ m
-Leaves b m (wrote before after) m′ = (before ≡ m) × (after ≡ m′)
+Leaves b m s m′ = (m′ ≡ memoryAfter b m s) × HostWrites m s
 
 pub record Follows (b : Ledger) (m : List ℕ) (l : Line) (v′ : View) (m′ : List ℕ) : Type 0 where
   pub related : Related (hear b (l .step)) v′ m′

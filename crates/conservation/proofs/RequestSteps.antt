@@ -50,7 +50,8 @@ use Rattle.conservation.specs.Ledger.{countersAfter, Ledger, nothing, de
 use Rattle.conservation.specs.Runs.{lineElsewhere}
 use Rattle.conservation.specs.Answering.{answerOf, answerOn, expectedOfRequest, registerOf, AnswerRight}
 use Rattle.conservation.specs.Answering as ledger
-use Rattle.conservation.proofs.Relations.{Home, Related, memoryBy, Follows}
+use Rattle.conservation.specs.Bytes.{memoryBy}
+use Rattle.conservation.proofs.Relations.{Home, Related, Follows}
 use Rattle.conservation.proofs.AllLaws.{all-imply}
 use Rattle.conservation.proofs.NumberLaws.{none-found}
 use Rattle.conservation.proofs.EntryLaws.{ChosenAs, priority, overflow, chosen-as, delivered-linked, home-delivered, home-new}
@@ -371,8 +372,9 @@ module _ (b : Ledger) (v : View) (m : List ℕ) (r : Related b v m) (q : Request
       let d = another-memory Kind.Get (length reply) (length lent) e in
       record { answer = ap (answerBy Kind.Get (q .ack)) d; state = ap (requestState v) d }
 
-  pub elsewhere-follows : (lent : List ℕ) (answer : Answer) → answer ≡ refused Refusal.BadMemory → Follows b m (lineElsewhere m lent answer) v m
-  elsewhere-follows lent answer e =
+  pub elsewhere-follows : (lent : List ℕ) → eqb (length lent) (length m) ≡ false → (answer : Answer) → answer ≡ refused Refusal.BadMemory
+      → Follows b m (lineElsewhere m lent answer) v m
+  elsewhere-follows lent other answer e =
       let a = refused Refusal.BadMemory in
       let s = same-messages b v m r in
       record {
@@ -388,6 +390,6 @@ module _ (b : Ledger) (v : View) (m : List ℕ) (r : Related b v m) (q : Request
           registers = λ k. r .registers k ∙ sym (same-register (b .heard) a refl k);
           counters = r .counters;
         });
-        right = record { answer = e; overflow = refl };
-        memory = refl;
+        right = record { answer = (other, e); overflow = refl };
+        memory = (refl, tt);
       }

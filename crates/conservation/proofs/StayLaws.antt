@@ -39,10 +39,10 @@ use Rattle.conservation.specs.Ledger.{Message, Ledger, Effect, nothing, 
 use Rattle.conservation.specs.Runs.{Line, Stepped, Ran}
 use Rattle.conservation.specs.Runs as Runs
 use Rattle.conservation.specs.Answering.{testsOf, expectedOfAppend, AnswerRight}
-use Rattle.conservation.specs.Bytes.{ledgerFrom, ledgerOf, shareByte, apart, BytesKept, Undisturbed, Stay, managesLocal, BytesStand}
+use Rattle.conservation.specs.Bytes.{ledgerFrom, ledgerOf, shareByte, apart, BytesKept, Undisturbed, Stay, managesLocal, BytesStand, memoryBy}
 use Rattle.conservation.specs.Conserved.{All}
 use Rattle.conservation.proofs.AllLaws.{all-last}
-use Rattle.conservation.proofs.Relations.{Related, memoryBy, Leaves, Follows, At, Reaches}
+use Rattle.conservation.proofs.Relations.{Related, Leaves, Follows, At, Reaches}
 use Rattle.conservation.proofs.ByteLaws.{written-there, written-elsewhere, Inside, written-apart}
 
 -- ## What holds of a message
@@ -348,7 +348,7 @@ stands-arrive x b v m m′ v′ l r f e k =
   where
     by : (s : Step) → AnswerRight (length (l .memory)) b s → Leaves b m s m′ → arrivalsOf (effectOf (b .linked) s) ≡ x ∷ [] → Stands x (hear b s) m′
     by (called c answer) right leaves e =
-        subst (Stands x (hear b (called c answer))) (sym leaves) (arrives x b v m r k (length (l .memory)) answer c right e)
+        subst (Stands x (hear b (called c answer))) (sym (leaves .0)) (arrives x b v m r k (length (l .memory)) answer c right e)
     by (elsewhere n answer) right leaves e = absurd (nil≢cons e)
     by (wrote before after) right leaves e = absurd (nil≢cons e)
 
@@ -441,18 +441,18 @@ stands-on x b v v′ m m′ l r f e kept-bytes s = by (l .step) (f .right .answe
     by : (t : Step) → AnswerRight (length (l .memory)) b t → Leaves b m t m′ → BytesKept x t → Stands x (hear b t) m′
     by (called c answer) right leaves kept-bytes =
         let k = kept x b v m r s e (length (l .memory)) answer c right in
-        stood (callEffect (b .linked) c answer) (answer ∷ []) (subst (λ (n : List ℕ). BytesStand n x) (sym leaves) (k .0)) (k .1)
+        stood (callEffect (b .linked) c answer) (answer ∷ []) (subst (λ (n : List ℕ). BytesStand n x) (sym (leaves .0)) (k .0)) (k .1)
     by (elsewhere n answer) right leaves kept-bytes =
-        stood nothing (answer ∷ []) (subst (λ (n : List ℕ). BytesStand n x) (sym leaves) (s .bytes)) (s .own)
+        stood nothing (answer ∷ []) (subst (λ (n : List ℕ). BytesStand n x) (sym (leaves .0)) (s .bytes)) (s .own)
     by (wrote before after) right leaves kept-bytes =
         stood nothing []
-        (subst (λ (n : List ℕ). BytesStand n x) (leaves .1) (kept-bytes ∙ subst (λ (n : List ℕ). BytesStand n x) (sym (leaves .0)) (s .bytes)))
+        (subst (λ (n : List ℕ). BytesStand n x) (sym (leaves .0)) (kept-bytes ∙ subst (λ (n : List ℕ). BytesStand n x) (sym (leaves .1 .0)) (s .bytes)))
         (s .own)
 
 -- ## The clause
 
 -- a line has the memory as its step begins
-began : {t t′ : Target} {m m′ : List ℕ} {l : Line} → Stepped t m l t′ m′ → l .memory ≡ m
+pub began : {t t′ : Target} {m m′ : List ℕ} {l : Line} → Stepped t m l t′ m′ → l .memory ≡ m
 began (Runs.append r p) = refl
 began (Runs.unlink r p) = refl
 began (Runs.search r p) = refl

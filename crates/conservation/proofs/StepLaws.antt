@@ -19,7 +19,8 @@ use Rattle.conservation.specs.Steps.{called, count, eventIn, eventsRead,
 use Rattle.conservation.specs.Ledger.{countersAfter, Ledger, Effect, Fates, nothing, callEffect, linkedAfter, arrivalsOf, waitingAfter, handOuts, issuedBy, addAll, effectHeard}
 use Rattle.conservation.specs.Runs.{line}
 use Rattle.conservation.specs.Answering.{AnswerRight, countedIn, registerOf}
-use Rattle.conservation.proofs.Relations.{SameEvents, Related, memoryBy, Follows}
+use Rattle.conservation.specs.Bytes.{memoryBy}
+use Rattle.conservation.proofs.Relations.{SameEvents, Related, Follows}
 use Rattle.conservation.proofs.NumberLaws.{none-found}
 use Rattle.conservation.proofs.EventLaws.{reads-more, count-more, overflow-shown}
 use Rattle.conservation.proofs.MessageLaws.{Messages, messages-parted}
@@ -89,7 +90,7 @@ module _ (b : Ledger) (v : View) (m : List ℕ) (r : Related b v m) where
       counters = k .counters;
     });
     right = record { answer = answer; overflow = overflow-shown b (callEffect (b .linked) c (answerTo v m c)) };
-    memory = k .memory ∙ ap (memoryBy m) (sym (k .effect));
+    memory = (k .memory ∙ ap (memoryBy m) (sym (k .effect)), tt);
   }
 
   pub messages : Messages (b .arrivals) (b .waiting) (b .handed) (v .entries) (v .headers)

@@ -5,7 +5,7 @@ use mathlib.Core.List.{List, [], _∷_}
 use mathlib.Core.Option.{Option, none, some}
 use Prim.Native.Nat.{ℕ, _+_, _%_, _^_}
 use lib.Dec.{eqb, ltb}
-use lib.ListN.{length, drop}
+use lib.ListN.{length}
 use Rattle.matching.specs.Refusals.{firstBad}
 use Rattle.matching.specs.Entry.{badEntryArgument}
 use Rattle.matching.specs.Request.{badRequestArgument, arrivalOf, accepted, offsetUsed, verdictOn, ackAsked, ackGiven}
@@ -130,8 +130,9 @@ expected b (readRegister k) = REGISTER (registerOf (b .heard) k)
 expected b (ready x) = cond (isReady (counterAt (b .counters) (x .counter)) (x .test)) READY NOT-READY
 expected b (poll ks tests) = reachedAnswer (reachedFrom (b .counters) 0 ks tests)
 
--- the answer of a step is the ledger's; BAD_MEMORY: "put or get: memory length differs from the state's"
+-- the answer of a step is the ledger's. BAD_MEMORY: "put or get: memory length differs from the state's"; the step `elsewhere` is only of a
+-- memory of another length
 abbrev pub AnswerRight : ℕ → Ledger → Step → Type 0
 AnswerRight size b (called c answer) = answer ≡ unlessRefused refused (testsOf size b c) (expected b c)
-AnswerRight size b (elsewhere n answer) = answer ≡ refused Refusal.BadMemory
+AnswerRight size b (elsewhere n answer) = (eqb n size ≡ false) × (answer ≡ refused Refusal.BadMemory)
 AnswerRight size b (wrote m m′) = Unit

@@ -19,13 +19,13 @@ use Rattle.state.specs.declared.layout.Settings.{Settings}
 use Rattle.state.specs.declared.layout.Target.{Target}
 use Rattle.portals.specs.Promises.{NewMet}
 use Rattle.portals.specs.declared.answers.NewDone.{NewDone}
-use Rattle.conservation.specs.Steps.{count, saysLinked, eventsRead, saysLinked}
+use Rattle.conservation.specs.Steps.{count, saysLinked, eventsRead}
 use Rattle.conservation.specs.Ledger.{Message, Ledger, Effect, nothing, delivery, link, taken, remove, look, delete, change, empty, hear, effectOf, messageAt, headerAt, headersAt, handOuts, issuedBy, queuedOf}
 use Rattle.conservation.specs.Runs.{Line, Ran}
 use Rattle.conservation.specs.Answering.{AnswerRight, registerOf}
-use Rattle.conservation.specs.Bytes.{ledgerOf, Stay, atArrival, Undisturbed, managesLocal, BytesStand}
+use Rattle.conservation.specs.Bytes.{ledgerOf, Stay, atArrival, Undisturbed, managesLocal, BytesStand, Memories}
 
--- what a claim says of every element
+-- a claim holds of every element
 abbrev pub All : {A : Type 0} → (A → Type 0) → List A → Type 0
 All P [] = Unit
 All P (x ∷ l) = P x × All P l
@@ -54,6 +54,7 @@ pub record Right (b : Ledger) (l : Line) : Type 0 where
   -- them, are those of the messages that it hands out; that they are the target's is said below, in `Agrees`
   pub overflow : select (λ i. isOverflow (i .event)) (issuedBy b (effectOf (b .linked) (l .step))) ≡ handOutsShown b (effectOf (b .linked) (l .step))
 
+-- a claim holds of every step, with the ledger as the step begins
 abbrev pub Throughout : (Ledger → Line → Type 0) → Ledger → List Line → Type 0
 Throughout P b [] = Unit
 Throughout P b (l ∷ ls) = P b l × Throughout P (hear b (l .step)) ls
@@ -77,7 +78,7 @@ abbrev pub ascends : ℕ → List ℕ → Bool
 ascends low [] = true
 ascends low (k ∷ ks) = ltb low (k + 1) && ascends (k + 1) ks
 
--- what holds of the target and of the memory beside it, by the ledger
+-- what holds of the target, and of the length of the memory beside it, by the ledger
 pub record Agrees (b : Ledger) (t : Target) (m : List ℕ) : Type 0 where
   -- "Every call on a sound state leaves a sound one."
   pub sound : isSound t ≡ true
@@ -114,7 +115,8 @@ pub record LedgerRight (b : Ledger) : Type 0 where
   -- "in arrival order"
   pub ascending : ascends 0 (b .waiting) ≡ true
 
-pub record Conserved (log : List Line) (t : Target) (m : List ℕ) : Type 0 where
+-- a list that begins with the memory `start` and leaves the target t and the memory m
+pub record Conserved (start : List ℕ) (log : List Line) (t : Target) (m : List ℕ) : Type 0 where
   pub target : Agrees (ledgerOf log) t m
   -- "Overflow events and search counts are the book's.", and so is every answer
   pub each : Throughout Right empty log
@@ -125,6 +127,8 @@ pub record Conserved (log : List Line) (t : Target) (m : List ℕ) : Type 0 wher
       → managesLocal x ≡ true
       → Undisturbed x (atArrival s) (s .between)
       → BytesStand (s .compared .memory) x
+  -- "Memory .. stands beside the state": what each step begins with and leaves
+  pub memories : Memories empty start log m
   pub ledger : LedgerRight (ledgerOf log)
 
 -- "for every list of these calls from a new target". "Memory of the target's size stands beside the state". Every beginning of a list is a
@@ -135,4 +139,4 @@ Conservation =
     → NewMet s new
     → length start ≡ viewOf (new .target) .size
     → Ran (new .target) start log t m
-    → Conserved log t m
+    → Conserved start log t m

@@ -37,10 +37,11 @@ stored = 97 ∷ 98 ∷ 99 ∷ replicate 13 0
 abbrev pub touched : List ℕ
 touched = set stored 12 7
 
--- "put portal 0, ack 1, nid 1, pid 2, uid 3, match 5, offset 0, `abc`, data 9", with the answers of the listing
+-- the steps of the list, with the answers of the listing
 abbrev pub before : List Line
 before = line zeros (append overflowEntry) (LINKED 1) ∷ []
 
+-- "put portal 0, ack 1, nid 1, pid 2, uid 3, match 5, offset 0, `abc`, data 9"
 abbrev pub arrival : Line
 arrival = line zeros (put (requestOf 5 0) (97 ∷ 98 ∷ 99 ∷ [])) (OVERFLOW 3 0 1)
 
@@ -62,7 +63,7 @@ pub record Example (r : Left) : Type 0 where
   pub made : NewMet (record { size = 16 }) new
   -- the calls were run, with these answers
   pub ran : Ran (new .target) zeros log (r .target) (r .memory)
-  pub conserved : Conserved log (r .target) (r .memory)
+  pub conserved : Conserved zeros log (r .target) (r .memory)
   -- it was handed out
   pub handed : ledgerOf log .handed ≡ 0 ∷ []
   -- its entry manages its own offset, and nothing disturbed it between its arrival and that append; so its bytes stand

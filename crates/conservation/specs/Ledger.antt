@@ -66,6 +66,7 @@ pub record Ledger : Type 0 where
   -- the numbers of those that wait, and of those handed out
   pub waiting : List ℕ
   pub handed : List ℕ
+  -- of all kinds; document 01's book has the overflow events
   pub events : Fates
   -- document 01's book has none: they are here so that every answer can be held against the ledger
   pub counters : List Counter
@@ -97,7 +98,7 @@ pub data Effect : Type 0 where
   link : Entry → ℕ → Effect
   -- TAKEN
   taken : Entry → Effect
-  -- the handle
+  -- DONE of an unlink, with the handle
   remove : ℕ → Effect
   -- SEARCHED, in mode 0 and in mode 1
   look : Entry → Effect
@@ -286,7 +287,7 @@ addBy true room s i = record { all = s .all ++ (record { issued = i; fate = disa
 addBy false true s i = record { all = s .all ++ (record { issued = i; fate = queued (gapOf (s .mark)) } ∷ []); mark = 0 }
 addBy false false s i = record { all = s .all ++ (record { issued = i; fate = lost } ∷ []); mark = 1 }
 
--- those that are queued and were not among the first `read` that were read
+-- those that were queued, without the first `read`, which were read
 abbrev pub stillQueued : ℕ → Fates → List Event
 stillQueued read s = drop read (queuedOf (s .all))
 
@@ -305,7 +306,7 @@ abbrev pub overflowCounted : Ledger → Entry → List Counter
 overflowCounted b e =
     counted (b .counters) (e .counter) (sumOf (λ n. overflowAmount (e .options) (headerAt (b .arrivals) n .accepted)) (appendWalk b e .found))
 
--- "CT_COMM counts accepted requests"; a search counts nothing
+-- "CT_COMM counts accepted requests"; a search counts nothing: decision 4
 abbrev pub countersAfter : Ledger → Effect → List Counter
 countersAfter b nothing = b .counters
 countersAfter b (delivery portal a payload x) =

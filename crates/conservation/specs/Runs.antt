@@ -10,7 +10,7 @@ use Rattle.matching.specs.declared.layout.Request.{Request}
 use Rattle.state.specs.declared.layout.CounterChange.{CounterChange}
 use Rattle.state.specs.declared.layout.CounterTest.{CounterTest}
 use Rattle.state.specs.declared.layout.Target.{Target}
-use Rattle.portals.specs.Answers.{Answer, refused, appendAnswer, plainAnswer, searchAnswer, requestAnswer, eventAnswer, counterAnswer, registerAnswer, readyAnswer, pollAnswer}
+use Rattle.portals.specs.Answers.{Answer, appendAnswer, plainAnswer, searchAnswer, requestAnswer, eventAnswer, counterAnswer, registerAnswer, readyAnswer, pollAnswer}
 use Rattle.portals.specs.Calls.{Call}
 use Rattle.portals.specs.Calls as Call
 use Rattle.portals.specs.Promises.{AppendMet, UnlinkMet, SearchMet, PutMet, GetMet, ReadEventMet, SetCounterMet, IncrementMet, ReadCounterMet, ReadRegisterMet, ReadyMet, PollMet}
@@ -25,7 +25,7 @@ use Rattle.portals.specs.declared.answers.ReadyAnswer.{ReadyAnswer}
 use Rattle.portals.specs.declared.answers.PollAnswer.{PollAnswer}
 use Rattle.conservation.specs.Steps.{Step, called, elsewhere, wrote}
 
--- a line of the log: the step, and the memory as it begins
+-- a list of steps is written as a log; a line of it is the step, and the memory as the step begins
 pub record Line : Type 0 where
   pub step : Step
   pub memory : List ℕ

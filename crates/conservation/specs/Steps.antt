@@ -22,7 +22,7 @@ answersIn (wrote m m′) = []
 
 -- ## The words of the answers
 
--- a number for each word, by which answers are logged apart whatever values they carry
+-- a number for each word, by which answers are told apart whatever values they carry
 abbrev pub word : Answer → ℕ
 word (REFUSED n) = 0
 word MADE = 1

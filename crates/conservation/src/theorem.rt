@@ -6,7 +6,8 @@ pub fn conservation()
     ensures { λ r. ⌜ Conservation ⌝ }
 {}
 
-// The impostors of document 01: lists of calls with wrong answers, which the claim of the theorem refuses whatever the target holds.
+// The impostors of document 01: lists of calls with wrong answers or a wrong memory, which the claim of the theorem refuses whatever the
+// target holds.
 pub fn impostors_refused()
     ensures { λ r. ⌜ ImpostorsRefused ⌝ }
 {}

@@ -75,7 +75,7 @@ pub record RunOf (s : List ℕ) : Type 0 where
   pub memory : List ℕ
   pub made : NewMet (record { size = headOf s .memory }) new
   pub ran : runs.Ran (new .target) (replicate (headOf s .memory) 0) (logOf s) target memory
-  pub conserved : Conserved (logOf s) target memory
+  pub conserved : Conserved (replicate (headOf s .memory) 0) (logOf s) target memory
 
 -- A script was judged, and run if it is good: its whole printout came up to be handed over.
 pub record Replayed (s : List ℕ) (r : Report) : Type 0 where
