@@ -104,6 +104,7 @@ pub record Agrees (b : Ledger) (t : Target) (m : List ℕ) : Type 0 where
   pub overflow : select isOverflow (eventsRead (b .heard) ++ viewOf t .queue .events) ≡ select isOverflow (queuedOf (b .events .all))
   -- "Each status register equals, modulo 2^64, the number of answers of its kind."
   pub registers : (k : ℕ) → k ≤ 2 → registerAt (viewOf t .registers) k ≡ registerOf (b .heard) k
+  -- both fields of every counter
   pub counters : viewOf t .counters ≡ b .counters
 
 -- what holds of the ledger alone, whatever was answered: the numbers of the arrivals
