@@ -165,7 +165,7 @@ module _ (b : Ledger) (v : View) (m : List ℕ) (r : Related b v m) where
         (handles-given (messages b v m r) (v .size) (v .last) (sound-facts v (r .isSound) .entries) (sound-facts v (r .isSound) .headers))))
         refl
 
-    -- the events of compared out
+    -- the events of handing out
     handed-events : (owner : ℕ) → HandOut.handOutEvents e owner (v .entries) (headersAt b (w .left)) (headersAt b (w .found)) ≡ walkEvents b e owner w
     handed-events owner =
         overflow-events b (v .entries) e owner (w .found) (w .left) (sound-facts v (r .isSound) .handles) (r .linked)

@@ -70,7 +70,7 @@ overwritten-none : (l : List ℕ) (at : ℕ) → overwritten l at [] ≡ l
 overwritten-none l at = rw (add-zero at, append-nil (take at l)) (take-append-drop at l)
 
 -- rule 5's bytes lie in the entry's region
-pub place-fits : (x : HeldEntry) (a : Arrival) → place (x .entry) (x .local) a + accepted (x .entry) (x .local) a ≤ x .entry .start + x .entry .length
+place-fits : (x : HeldEntry) (a : Arrival) → place (x .entry) (x .local) a + accepted (x .entry) (x .local) a ≤ x .entry .start + x .entry .length
 unfolding place accepted available
 place-fits x a = omega arith
 
@@ -119,9 +119,9 @@ pub record Served (b : Ledger) (m : List ℕ) (c : Call) (a : Answer) (v′ : Vi
   pub size : length m′ ≡ length m
 
 -- and its answer is the ledger's
-pub record ServedAs (expects : Answer) (b : Ledger) (m : List ℕ) (c : Call) (a : Answer) (v′ : View) (m′ : List ℕ) : Type 0 where
-  pub served : Served b m c a v′ m′
-  pub right : a ≡ expects
+record ServedAs (expects : Answer) (b : Ledger) (m : List ℕ) (c : Call) (a : Answer) (v′ : View) (m′ : List ℕ) : Type 0 where
+  served : Served b m c a v′ m′
+  right : a ≡ expects
 
 -- `after` gives the memory that a decision leaves: the payload's bytes where it delivers
 module _ (b : Ledger) (v : View) (m : List ℕ) (r : Related b v m) (c : Call) (q : Request) (kind : Kind) (requested : ℕ) (payload : List ℕ)
@@ -279,7 +279,7 @@ module _ (b : Ledger) (v : View) (m : List ℕ) (r : Related b v m) (c : Call) (
     chosen-by Verdict.Granted true e f = granted (right-by Verdict.Granted true e f)
 
   -- whatever is decided
-  pub decided-served : Serves (decide (v .entries) (v .headers) (q .portal) a)
+  decided-served : Serves (decide (v .entries) (v .headers) (q .portal) a)
   unfolding decide
   decided-served = go (choose (v .entries) (q .portal) a) (chosen (b .linked) (q .portal) a) refl
       (subst (λ l. ChosenAs (v .entries) (q .portal) a (choose (v .entries) (q .portal) a) (chosen l (q .portal) a)) (r .linked) (chosen-as (v .entries) (q .portal) a))

@@ -180,7 +180,7 @@ module _ (size : ℕ) (b : Ledger) (answer : Answer) (P : Effect → Type 0) (no
   effect-cases (ready x) right = no-effect
   effect-cases (poll ks tests) right = no-effect
 
--- ## The linked entries after a effect
+-- ## The linked entries after an effect
 
 module _ (P Q : HeldEntry → Type 0) (handle : ℕ) (others : (z : HeldEntry) → (z .handle ≡ handle → ⊥) → P z → Q z) where
   all-without : (l : List HeldEntry) → All P l → All Q (without handle l)
@@ -339,7 +339,7 @@ module _ (x : Message) (b : Ledger) (v : View) (m : List ℕ) (r : Related b v m
       (λ k f e. absurd (nil≢cons e))
 
 -- it stands as it arrives
-pub stands-arrive : (x : Message) (b : Ledger) (v : View) (m m′ : List ℕ) (v′ : View) (l : Line) → Related b v m → Follows b m l v′ m′
+stands-arrive : (x : Message) (b : Ledger) (v : View) (m m′ : List ℕ) (v′ : View) (l : Line) → Related b v m → Follows b m l v′ m′
     → hear b (l .step) .arrivals ≡ b .arrivals ++ (x ∷ [])
     → managesLocal x ≡ true
     → Stands x (hear b (l .step)) m′
@@ -425,7 +425,7 @@ module _ (x : Message) (b : Ledger) (v : View) (m : List ℕ) (r : Related b v m
       (λ k f. (s .bytes, s .own))
 
 -- it stands after each step that does not disturb it
-pub stands-on : (x : Message) (b : Ledger) (v v′ : View) (m m′ : List ℕ) (l : Line) → Related b v m → Follows b m l v′ m′
+stands-on : (x : Message) (b : Ledger) (v v′ : View) (m m′ : List ℕ) (l : Line) → Related b v m → Follows b m l v′ m′
     → apart x b ≡ true
     → BytesKept x (l .step)
     → Stands x b m

@@ -43,7 +43,7 @@ same-count p heard a e = count-more p heard a ∙ rw e (add-zero (count p heard)
 pub one-more : (p : Answer → Bool) (heard : List Answer) (a : Answer) → p a ≡ true → count p (heard ++ (a ∷ [])) ≡ count p heard + 1
 one-more p heard a e = count-more p heard a ∙ rw e refl
 
-pub same-reads : (heard : List Answer) (a : Answer) → eventIn a ≡ [] → eventsRead (heard ++ (a ∷ [])) ≡ eventsRead heard
+same-reads : (heard : List Answer) (a : Answer) → eventIn a ≡ [] → eventsRead (heard ++ (a ∷ [])) ≡ eventsRead heard
 same-reads heard a e = reads-more heard a ∙ rw e (append-nil (eventsRead heard))
 
 pub same-register : (heard : List Answer) (a : Answer) → Unregistered a → (k : ℕ) → registerOf (heard ++ (a ∷ [])) k ≡ registerOf heard k
@@ -58,7 +58,7 @@ same-register heard a u k =
 
 -- ## A step
 
--- what a call with its answer leaves, against what the ledger makes of them as a effect
+-- what a call with its answer leaves, against what the ledger makes of them as an effect
 pub record Kept (b : Ledger) (m : List ℕ) (c : Call) (a : Answer) (v′ : View) (m′ : List ℕ) : Type 0 where
   pub d : Effect
   pub effect : callEffect (b .linked) c a ≡ d
