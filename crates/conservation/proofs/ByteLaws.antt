@@ -77,7 +77,7 @@ places-apart e f at k p n u w h = go (decLe (p + suc n) at)
         inr (omega arith)
 
 -- nothing is written
-written-none : (m : List ℕ) (at : ℕ) → overwritten m at [] ≡ m
+pub written-none : (m : List ℕ) (at : ℕ) → overwritten m at [] ≡ m
 written-none m at = rw (add-zero at, append-nil (take at m)) (take-append-drop at m)
 
 -- a write into a region leaves the bytes of a region that shares none with it

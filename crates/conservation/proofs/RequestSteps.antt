@@ -1,15 +1,14 @@
 -- Put and get: the ledger chooses the entry that the target chooses, and makes of it what the target makes.
 use mathlib.Core.Path.{_≡_, refl, ap, sym, _∙_, subst}
 use mathlib.Core.Bool.{Bool, true, false, _||_, not, cond}
-use mathlib.Core.List.{List, [], _∷_, _++_, append-nil}
+use mathlib.Core.List.{List, [], _∷_, _++_}
 use mathlib.Core.Option.{Option, none, some}
 use Prim.Native.Nat.{ℕ, zero, suc, _+_, _-_, _<_, _≤_, _%_, _^_}
-use native.Mathlib.Nat.{add-zero}
 use native.Mathlib.Omega.{arith}
 use borrow.Author.Tests.{eq-eqb}
 use lib.Dec.{eqb, ltb}
-use lib.ListN.{length, take, length-map, length-append, length-take, length-drop, take-append-drop}
-use Rattle.matching.specs.Request.{badRequestArgument, arrivalOf, offsetUsed, available, accepted, place, verdictOn, ackAsked, ackGiven}
+use lib.ListN.{length, take, length-map, length-append, length-take, length-drop}
+use Rattle.matching.specs.Request.{badRequestArgument, arrivalOf, offsetUsed, accepted, place, verdictOn, ackAsked, ackGiven}
 use Rattle.matching.specs.EarlyMessages.{takesHeaders}
 use Rattle.matching.specs.Counters.{commAmount}
 use Rattle.matching.specs.declared.layout.Request.{Request}
@@ -29,6 +28,7 @@ use Rattle.state.specs.Registers.{registerAt, requestDropped, permissionViolate
 use Rattle.state.specs.declared.layout.HeldEntry.{HeldEntry}
 use Rattle.state.specs.declared.layout.Counter.{Counter}
 use Rattle.state.specs.declared.layout.Registers.{Registers}
+use Rattle.matching.proofs.RequestLaws.{place-end}
 use Rattle.state.proofs.ListLaws.{cond-cases, every-at}
 use Rattle.state.proofs.SoundLaws.{sound-facts, entry-facts, region-fits}
 use Rattle.requests.specs.Choice.{choose}
@@ -53,6 +53,7 @@ use Rattle.conservation.specs.Answering as ledger
 use Rattle.conservation.specs.Bytes.{memoryBy}
 use Rattle.conservation.proofs.Relations.{Home, Related, Follows}
 use Rattle.conservation.proofs.AllLaws.{all-imply}
+use Rattle.conservation.proofs.ByteLaws.{written-none}
 use Rattle.conservation.proofs.NumberLaws.{none-found}
 use Rattle.conservation.proofs.EntryLaws.{ChosenAs, priority, overflow, chosen-as, delivered-linked, home-delivered, home-new}
 use Rattle.conservation.proofs.EntryLaws as entries
@@ -66,14 +67,6 @@ use Rattle.conservation.proofs.EarlySteps.{issued-added}
 overwritten-length : (l s : List ℕ) (at : ℕ) → at + length s ≤ length l → length (overwritten l at s) ≡ length l
 overwritten-length l s at h = simp (length-append, length-take, length-drop) (omega arith)
 
-overwritten-none : (l : List ℕ) (at : ℕ) → overwritten l at [] ≡ l
-overwritten-none l at = rw (add-zero at, append-nil (take at l)) (take-append-drop at l)
-
--- rule 5's bytes lie in the entry's region
-place-fits : (x : HeldEntry) (a : Arrival) → place (x .entry) (x .local) a + accepted (x .entry) (x .local) a ≤ x .entry .start + x .entry .length
-unfolding place accepted available
-place-fits x a = omega arith
-
 -- ## The registers
 
 module _ (rs : Registers) (heard : List Answer) (same : (k : ℕ) → registerAt rs k ≡ registerOf heard k) where
@@ -84,32 +77,37 @@ module _ (rs : Registers) (heard : List Answer) (same : (k : ℕ) → registerAt
   stays : (p : Answer → Bool) (a : Answer) (n : ℕ) → n ≡ count p heard % 2 ^ 64 → p a ≡ false → n ≡ count p (heard ++ (a ∷ [])) % 2 ^ 64
   stays p a n e s = e ∙ ap (λ c. c % 2 ^ 64) (sym (same-count p heard a s))
 
-  dropped-counted : (ack k : ℕ) → registerAt (requestDropped rs) k ≡ registerOf (heard ++ (DROPPED ack ∷ [])) k
-  dropped-counted ack k = go (eqb k 0) (eqb k 1)
+  -- each counts its own
+  each-counted : (rs′ : Registers) (a : Answer) → rs′ .dropped ≡ count saysDropped (heard ++ (a ∷ [])) % 2 ^ 64
+      → rs′ .permission ≡ count saysPerm (heard ++ (a ∷ [])) % 2 ^ 64
+      → rs′ .operation ≡ count saysOp (heard ++ (a ∷ [])) % 2 ^ 64
+      → (k : ℕ)
+      → registerAt rs′ k ≡ registerOf (heard ++ (a ∷ [])) k
+  each-counted rs′ a dropped permission operation k = go (eqb k 0) (eqb k 1)
     where
-      go : (x y : Bool) → cond x ((rs .dropped + 1) % 2 ^ 64) (cond y (rs .permission) (rs .operation))
-          ≡ count (cond x saysDropped (cond y saysPerm saysOp)) (heard ++ (DROPPED ack ∷ [])) % 2 ^ 64
-      go true y = grows saysDropped (DROPPED ack) (rs .dropped) (same 0) refl
-      go false true = stays saysPerm (DROPPED ack) (rs .permission) (same 1) refl
-      go false false = stays saysOp (DROPPED ack) (rs .operation) (same 2) refl
+      go : (x y : Bool) → cond x (rs′ .dropped) (cond y (rs′ .permission) (rs′ .operation))
+          ≡ count (cond x saysDropped (cond y saysPerm saysOp)) (heard ++ (a ∷ [])) % 2 ^ 64
+      go true y = dropped
+      go false true = permission
+      go false false = operation
+
+  dropped-counted : (ack k : ℕ) → registerAt (requestDropped rs) k ≡ registerOf (heard ++ (DROPPED ack ∷ [])) k
+  dropped-counted ack =
+      each-counted (requestDropped rs) (DROPPED ack) (grows saysDropped (DROPPED ack) (rs .dropped) (same 0) refl)
+      (stays saysPerm (DROPPED ack) (rs .permission) (same 1) refl)
+      (stays saysOp (DROPPED ack) (rs .operation) (same 2) refl)
 
   permission-counted : (ack k : ℕ) → registerAt (permissionViolated rs) k ≡ registerOf (heard ++ (PERM ack ∷ [])) k
-  permission-counted ack k = go (eqb k 0) (eqb k 1)
-    where
-      go : (x y : Bool) → cond x (rs .dropped) (cond y ((rs .permission + 1) % 2 ^ 64) (rs .operation))
-          ≡ count (cond x saysDropped (cond y saysPerm saysOp)) (heard ++ (PERM ack ∷ [])) % 2 ^ 64
-      go true y = stays saysDropped (PERM ack) (rs .dropped) (same 0) refl
-      go false true = grows saysPerm (PERM ack) (rs .permission) (same 1) refl
-      go false false = stays saysOp (PERM ack) (rs .operation) (same 2) refl
+  permission-counted ack =
+      each-counted (permissionViolated rs) (PERM ack) (stays saysDropped (PERM ack) (rs .dropped) (same 0) refl)
+      (grows saysPerm (PERM ack) (rs .permission) (same 1) refl)
+      (stays saysOp (PERM ack) (rs .operation) (same 2) refl)
 
   operation-counted : (ack k : ℕ) → registerAt (operationViolated rs) k ≡ registerOf (heard ++ (OP ack ∷ [])) k
-  operation-counted ack k = go (eqb k 0) (eqb k 1)
-    where
-      go : (x y : Bool) → cond x (rs .dropped) (cond y (rs .permission) ((rs .operation + 1) % 2 ^ 64))
-          ≡ count (cond x saysDropped (cond y saysPerm saysOp)) (heard ++ (OP ack ∷ [])) % 2 ^ 64
-      go true y = stays saysDropped (OP ack) (rs .dropped) (same 0) refl
-      go false true = stays saysPerm (OP ack) (rs .permission) (same 1) refl
-      go false false = grows saysOp (OP ack) (rs .operation) (same 2) refl
+  operation-counted ack =
+      each-counted (operationViolated rs) (OP ack) (stays saysDropped (OP ack) (rs .dropped) (same 0) refl)
+      (stays saysPerm (OP ack) (rs .permission) (same 1) refl)
+      (grows saysOp (OP ack) (rs .operation) (same 2) refl)
 
 -- ## A request
 
@@ -217,7 +215,7 @@ module _ (b : Ledger) (v : View) (m : List ℕ) (r : Related b v m) (c : Call) (
     written-length : length (memoryBy m (delivery (q .portal) a payload x)) ≡ length m
     written-length =
         let n = region in
-        let p = place-fits x a in
+        let p = place-end (x .entry) (x .local) a in
         let t : length (take (accepted (x .entry) (x .local) a) payload) ≤ accepted (x .entry) (x .local) a = simp length-take (omega arith) in
         overwritten-length m (take (accepted (x .entry) (x .local) a) payload) (place (x .entry) (x .local) a) (omega arith)
 
@@ -338,7 +336,7 @@ module _ (b : Ledger) (v : View) (m : List ℕ) (r : Related b v m) (q : Request
     unwritten k =
         let x = entryAt (v .entries) k in
         let a = arrivalOf q Kind.Get (length reply) in
-        sym (ap (overwritten m (place (x .entry) (x .local) a)) (take-none (accepted (x .entry) (x .local) a)) ∙ overwritten-none m (place (x .entry) (x .local) a))
+        sym (ap (overwritten m (place (x .entry) (x .local) a)) (take-none (accepted (x .entry) (x .local) a)) ∙ written-none m (place (x .entry) (x .local) a))
 
     pub get-served : Served b m (calls.get q reply) (get v m q reply .answer) (get v m q reply .state) m
     unfolding get
