@@ -10,8 +10,8 @@ pub enum NewAnswer {
 }
 
 pub struct NewDone {
-    pub answer: NewAnswer,
     pub target: Target,
+    pub answer: NewAnswer,
 }
 
 pub enum AppendAnswer {
@@ -23,8 +23,8 @@ pub enum AppendAnswer {
 }
 
 pub struct AppendDone {
-    pub answer: AppendAnswer,
     pub target: Target,
+    pub answer: AppendAnswer,
 }
 
 // Unlink, counter set and counter increment.
@@ -34,8 +34,8 @@ pub enum PlainAnswer {
 }
 
 pub struct PlainDone {
-    pub answer: PlainAnswer,
     pub target: Target,
+    pub answer: PlainAnswer,
 }
 
 pub enum SearchAnswer {
@@ -45,8 +45,8 @@ pub enum SearchAnswer {
 }
 
 pub struct SearchDone {
-    pub answer: SearchAnswer,
     pub target: Target,
+    pub answer: SearchAnswer,
 }
 
 // Put and get.
@@ -60,8 +60,8 @@ pub enum RequestAnswer {
 }
 
 pub struct RequestDone {
-    pub answer: RequestAnswer,
     pub target: Target,
+    pub answer: RequestAnswer,
 }
 
 pub enum EventAnswer {
@@ -71,8 +71,8 @@ pub enum EventAnswer {
 }
 
 pub struct EventDone {
-    pub answer: EventAnswer,
     pub target: Target,
+    pub answer: EventAnswer,
 }
 
 pub enum CounterAnswer {

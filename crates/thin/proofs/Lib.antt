@@ -1,0 +1,14 @@
+pub mod Forms
+pub mod ThinOne
+pub mod ThinAlone
+pub mod ThinNew
+pub mod ThinPut
+pub mod ThinGet
+pub mod LookOne
+pub mod LookLists
+pub mod ByOne
+pub mod ByAlone
+pub mod ByPut
+pub mod ByGet
+pub mod ByLookOne
+pub mod ByLookLists
