@@ -1,0 +1,115 @@
+// What each answer is printed as, behind the way in which the call was made: as a line of a printout, and for the calls that no script
+// has by their own words.
+use portals::answers::AppendAnswer;
+use portals::answers::CounterAnswer;
+use portals::answers::EventAnswer;
+use portals::answers::NewAnswer;
+use portals::answers::PlainAnswer;
+use portals::answers::PollAnswer;
+use portals::answers::ReadyAnswer;
+use portals::answers::RegisterAnswer;
+use portals::answers::RequestAnswer;
+use portals::answers::SearchAnswer;
+use printer::said;
+use text::decimals;
+use text::writing;
+ghost use Prim.Native.Nat.{_+_, _*_, _≤_};
+ghost use lib.ListN.{length};
+
+// A line: the first bytes of a buffer.
+fn first(out: &[u8], n: usize) {
+    if n <= out.len() {
+        io::write_all(1, &out[..n]);
+    }
+}
+
+// The way, and a line.
+fn say(way: &[u8], out: &[u8; 400], n: usize) {
+    io::write_all(1, way);
+    first(out, n);
+    io::write_all(1, b"\n");
+}
+
+// The number of a call, a word and numbers.
+fn say_word(way: &[u8], k: usize, word: &[u8], numbers: &[u64])
+    requires { ⌜ 20 + length (now word) + 21 * length (now numbers) ≤ 400 ⌝ }
+{
+    let mut out = [0u8; 400];
+    let a = decimals::put_decimal(&mut out, 0, k as u64);
+    let b = writing::put_bytes(&mut out, a, word);
+    let n = decimals::put_fields(&mut out, b, numbers);
+    say(way, &out, n)
+}
+
+pub fn say_append(way: &[u8], k: usize, a: AppendAnswer) {
+    let mut out = [0u8; 400];
+    let n = said::append_said(&mut out, k, a);
+    say(way, &out, n)
+}
+
+pub fn say_plain(way: &[u8], k: usize, a: PlainAnswer) {
+    let mut out = [0u8; 400];
+    let n = said::plain_said(&mut out, k, a);
+    say(way, &out, n)
+}
+
+pub fn say_search(way: &[u8], k: usize, a: SearchAnswer) {
+    let mut out = [0u8; 400];
+    let n = said::search_said(&mut out, k, a);
+    say(way, &out, n)
+}
+
+pub fn say_event(way: &[u8], k: usize, a: EventAnswer) {
+    let mut out = [0u8; 400];
+    let n = said::event_said(&mut out, k, a);
+    say(way, &out, n)
+}
+
+pub fn say_counter(way: &[u8], k: usize, a: CounterAnswer) {
+    let mut out = [0u8; 400];
+    let n = said::counter_said(&mut out, k, a);
+    say(way, &out, n)
+}
+
+pub fn say_register(way: &[u8], k: usize, a: RegisterAnswer) {
+    let mut out = [0u8; 400];
+    let n = said::register_said(&mut out, k, a);
+    say(way, &out, n)
+}
+
+pub fn say_put(way: &[u8], k: usize, a: RequestAnswer) {
+    let mut out = [0u8; 400];
+    let n = said::request_said(&mut out, k, a);
+    say(way, &out, n)
+}
+
+// With the bytes of its reply.
+pub fn say_get(way: &[u8], k: usize, a: RequestAnswer, reply: &[u8; 4]) {
+    let mut out = [0u8; 400];
+    let m = said::request_said(&mut out, k, a);
+    let n = said::put_reply(&mut out, m, a, reply);
+    say(way, &out, n)
+}
+
+pub fn say_new(way: &[u8], k: usize, a: NewAnswer) {
+    match a {
+        NewAnswer::Made => say_word(way, k, b" MADE", &[]),
+        NewAnswer::Refused(refusal) => say_plain(way, k, PlainAnswer::Refused(refusal)),
+    }
+}
+
+pub fn say_ready(way: &[u8], k: usize, a: ReadyAnswer) {
+    match a {
+        ReadyAnswer::Ready => say_word(way, k, b" READY", &[]),
+        ReadyAnswer::NotReady => say_word(way, k, b" NOT_READY", &[]),
+        ReadyAnswer::Refused(refusal) => say_plain(way, k, PlainAnswer::Refused(refusal)),
+    }
+}
+
+pub fn say_poll(way: &[u8], k: usize, a: PollAnswer) {
+    match a {
+        PollAnswer::Reached(place) => say_word(way, k, b" REACHED", &[place as u64]),
+        PollAnswer::NoneReached => say_word(way, k, b" NONE_REACHED", &[]),
+        PollAnswer::Refused(refusal) => say_plain(way, k, PlainAnswer::Refused(refusal)),
+    }
+}
