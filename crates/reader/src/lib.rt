@@ -4,3 +4,4 @@ pub mod calls;
 pub mod contents;
 pub mod judging;
 pub mod numbers;
+pub mod reading;

@@ -11,8 +11,8 @@ use portals::unlink;
 use printer::said;
 use reader::calls;
 use reader::calls::Call;
-use reader::contents;
 use reader::contents::Line;
+use reader::reading;
 use state::layout::CounterChange;
 use state::layout::Target;
 use text::writing;
@@ -207,7 +207,7 @@ pub(crate) fn run_line(
     requires { ⌜ (wellFormed (now script) (lineAt (now script) k) ≡ true) × (LINE ≤ length (now out)) ⌝ }
     ensures { λ r. ⌜ LineRan (callAt (now (script .entry)) k) t (now (memory .entry)) k r (now (memory .exit)) (now (out .exit)) ⌝ }
 {
-    let l = contents::line_at(script, k);
+    let l = reading::line_of(script, k);
     let s = run_call(t, memory, script, l, k, out);
     let length = writing::put_byte(out, s.length, b'\n');
     let target = s.target;

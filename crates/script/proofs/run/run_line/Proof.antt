@@ -8,13 +8,13 @@ use borrow.Author.Needs.{needs}
 use Rattle.script.proofs.run.run_line.Statement.{statement}
 use Rattle.script.proofs.run.run_line.Tie as tie
 
-line-at-requires : tie.Need-line-at-requires
-line-at-requires c κs = search needs
+line-of-requires : tie.Need-line-of-requires
+line-of-requires c κs = search needs
 
 run-call-requires : tie.Need-run-call-requires
 run-call-requires c κs =
     let i = c .before .before .before .before .before .before in
-    (subst (λ (l : Line). wellFormed (i .args .script .now) l ≡ true) (sym (c .before .before .line-at .ensures)) (i .pre .0), omega (arith, i .pre .1))
+    (subst (λ (l : Line). wellFormed (i .args .script .now) l ≡ true) (sym (c .before .before .line-of .ensures)) (i .pre .0), omega (arith, i .pre .1))
 
 put-byte-requires : tie.Need-put-byte-requires
 put-byte-requires c κs = search needs
@@ -31,14 +31,14 @@ returns c =
     let called = ended .before .before .before .before .before .before in
     let line = called .before .before .before in
     let i = line .before .before .before .before in
-    line-ran (i .args .script .now) (line .line-at .result) (i .args .t) (i .args .memory .now) (i .args .k) _ _
-    (called .run-call .result) _ _ _ (line .line-at .ensures) (called .run-call .ensures) (ended .put-byte .ensures)
+    line-ran (i .args .script .now) (line .line-of .result) (i .args .t) (i .args .memory .now) (i .args .k) _ _
+    (called .run-call .result) _ _ _ (line .line-of .ensures) (called .run-call .ensures) (ended .put-byte .ensures)
 
 pub run-line-spec : {M : Type 1} → statement M
 run-line-spec =
     tie.close
     (tie.spec
-    line-at-requires
+    line-of-requires
     run-call-requires
     put-byte-requires
     same-length
