@@ -1,13 +1,7 @@
 // Document 01, "Script and printout": one call of a script, run and printed.
+use host::by_value;
 use matching::layout::Entry;
 use matching::layout::Request;
-use portals::append;
-use portals::counters;
-use portals::events;
-use portals::put_get;
-use portals::registers;
-use portals::search;
-use portals::unlink;
 use printer::said;
 use reader::calls;
 use reader::calls::Call;
@@ -36,7 +30,7 @@ fn run_append(t: Target, e: Entry, k: usize, out: &mut [u8]) -> Stepped
     requires { ⌜ TEXT ≤ length (now out) ⌝ }
     ensures { λ r. ⌜ RanOn (Calls.append e) t k (now (out .entry)) r (now (out .exit)) ⌝ }
 {
-    let d = append::append(t, e);
+    let d = by_value::append(t, e);
     let answer = d.answer;
     let length = said::append_said(out, k, answer);
     let target = d.target;
@@ -47,7 +41,7 @@ fn run_unlink(t: Target, handle: u32, k: usize, out: &mut [u8]) -> Stepped
     requires { ⌜ TEXT ≤ length (now out) ⌝ }
     ensures { λ r. ⌜ RanOn (Calls.unlink handle) t k (now (out .entry)) r (now (out .exit)) ⌝ }
 {
-    let d = unlink::unlink(t, handle);
+    let d = by_value::unlink(t, handle);
     let answer = d.answer;
     let length = said::plain_said(out, k, answer);
     let target = d.target;
@@ -58,7 +52,7 @@ fn run_search(t: Target, e: Entry, k: usize, out: &mut [u8]) -> Stepped
     requires { ⌜ TEXT ≤ length (now out) ⌝ }
     ensures { λ r. ⌜ RanOn (Calls.search e) t k (now (out .entry)) r (now (out .exit)) ⌝ }
 {
-    let d = search::search(t, e);
+    let d = by_value::search(t, e);
     let answer = d.answer;
     let length = said::search_said(out, k, answer);
     let target = d.target;
@@ -76,7 +70,7 @@ fn run_put(
     requires { ⌜ TEXT ≤ length (now out) ⌝ }
     ensures { λ r. ⌜ CallRan (Calls.put q (now (payload .entry))) t (now (memory .entry)) k (now (out .entry)) r (now (memory .exit)) (now (out .exit)) ⌝ }
 {
-    let d = put_get::put(t, memory, q, payload);
+    let d = by_value::put(t, memory, q, payload);
     let answer = d.answer;
     let length = said::request_said(out, k, answer);
     let target = d.target;
@@ -95,7 +89,7 @@ fn run_get_into(
     requires { ⌜ (length (now reply) ≤ SCRIPT-MEMORY) × (TEXT ≤ length (now out)) ⌝ }
     ensures { λ r. ⌜ CallRan (Calls.get q (now (reply .entry))) t (now (memory .entry)) k (now (out .entry)) r (now (memory .entry)) (now (out .exit)) ⌝ }
 {
-    let d = put_get::get(t, memory, q, reply);
+    let d = by_value::get(t, memory, q, reply);
     let answer = d.answer;
     let a = said::request_said(out, k, answer);
     let length = said::put_reply(out, a, answer, reply);
@@ -123,7 +117,7 @@ fn run_read_event(t: Target, k: usize, out: &mut [u8]) -> Stepped
     requires { ⌜ TEXT ≤ length (now out) ⌝ }
     ensures { λ r. ⌜ RanOn Calls.readEvent t k (now (out .entry)) r (now (out .exit)) ⌝ }
 {
-    let d = events::read_event(t);
+    let d = by_value::read_event(t);
     let answer = d.answer;
     let length = said::event_said(out, k, answer);
     let target = d.target;
@@ -134,7 +128,7 @@ fn run_set_counter(t: Target, x: CounterChange, k: usize, out: &mut [u8]) -> Ste
     requires { ⌜ TEXT ≤ length (now out) ⌝ }
     ensures { λ r. ⌜ RanOn (Calls.setCounter x) t k (now (out .entry)) r (now (out .exit)) ⌝ }
 {
-    let d = counters::set_counter(t, x);
+    let d = by_value::set_counter(t, x);
     let answer = d.answer;
     let length = said::plain_said(out, k, answer);
     let target = d.target;
@@ -145,7 +139,7 @@ fn run_increment(t: Target, x: CounterChange, k: usize, out: &mut [u8]) -> Stepp
     requires { ⌜ TEXT ≤ length (now out) ⌝ }
     ensures { λ r. ⌜ RanOn (Calls.increment x) t k (now (out .entry)) r (now (out .exit)) ⌝ }
 {
-    let d = counters::increment(t, x);
+    let d = by_value::increment(t, x);
     let answer = d.answer;
     let length = said::plain_said(out, k, answer);
     let target = d.target;
@@ -156,7 +150,7 @@ fn run_read_counter(t: Target, n: u64, k: usize, out: &mut [u8]) -> Stepped
     requires { ⌜ TEXT ≤ length (now out) ⌝ }
     ensures { λ r. ⌜ RanOn (Calls.readCounter n) t k (now (out .entry)) r (now (out .exit)) ⌝ }
 {
-    let answer = counters::read_counter(t, n);
+    let answer = by_value::read_counter(t, n);
     let length = said::counter_said(out, k, answer);
     Stepped { target: t, length }
 }
@@ -165,7 +159,7 @@ fn run_read_register(t: Target, n: u64, k: usize, out: &mut [u8]) -> Stepped
     requires { ⌜ TEXT ≤ length (now out) ⌝ }
     ensures { λ r. ⌜ RanOn (Calls.readRegister n) t k (now (out .entry)) r (now (out .exit)) ⌝ }
 {
-    let answer = registers::read_register(t, n);
+    let answer = by_value::read_register(t, n);
     let length = said::register_said(out, k, answer);
     Stepped { target: t, length }
 }
