@@ -1,4 +1,5 @@
 pub mod Forms
+pub mod Cells
 pub mod ThinOne
 pub mod ThinAlone
 pub mod ThinNew
