@@ -30,8 +30,7 @@ use denote.Slice.{sliceTy, sliceVal, slice-vals, ShrSlice, Room, shr-slice-tells
 use denote.Ref.{RefT, ShrRef, now, ptr, name}
 use denote.Signature.{plain, shrSliceOf}
 use denote.Steps.{only, owned, peeks, heard, nothing}
-use denote.Struct.Declared.{Declared, row, shape, fields}
-use denote.Struct.Struct.{Plains, layout}
+use denote.Struct.Declared.{row}
 use denote.Struct.Laws as LL
 use denote.Triple.Statement.{Contract, Triple}
 use denote.Triple.Call.{calls-at}
@@ -42,18 +41,11 @@ use denote.Triple.Walked.{says, Stays, stay-dropped, walkOf, AllGo, goes-dropped
 use denote.Triple.Clauses.{Clauses, Ended, ensured, lasts, closing}
 use denote.Exit.{yes}
 use Rattle.thin.proofs.Cells.{lay, unlay}
-use Rattle.thin.proofs.Forms.{still, Passed, Plain, Kind}
+use Rattle.thin.proofs.Forms.{still, Passed, Plain, Kind, Names, names}
 use Rattle.thin.proofs.LookLists.{own-ended, own-clauses}
 
 module _ (K : Kind) (B : Plain) (w₁ : Width) (w₂ : Width) (P : K .N .D → List ℕ → List ℕ → B .row .Denot → Type 0) (#thin : Name) where
-  abbrev N : Declared
-  N = K .N
-
-  abbrev L : LL.Laws N
-  L = K .L
-
-  abbrev pl : Plains (fields N)
-  pl = K .pl
+  open Names (names K) using (N, L, pl, Tr, τT, val)
 
   abbrev Y : RattleType
   Y = B .row
@@ -69,15 +61,6 @@ module _ (K : Kind) (B : Plain) (w₁ : Width) (w₂ : Width) (P : K .N .D → L
 
   abbrev A₂ : RattleType
   A₂ = UInt w₂
-
-  abbrev Tr : RattleType
-  Tr = row N
-
-  abbrev τT : Ty
-  τT = layout (shape N)
-
-  abbrev val : N .D → Val
-  val = LL.val N L
 
   abbrev thin-ended : Ended
   thin-ended = own-ended K B w₁ w₂ P #thin

@@ -27,8 +27,7 @@ use denote.Lend.{lends-shr}
 use denote.Ref.{RefT, ShrRef, now, ptr, name}
 use denote.Signature.{plain}
 use denote.Steps.{only, owned, peeks, heard, nothing}
-use denote.Struct.Declared.{Declared, row, shape, fields}
-use denote.Struct.Struct.{Plains, layout}
+use denote.Struct.Declared.{row}
 use denote.Struct.Laws as LL
 use denote.Triple.Statement.{Contract, Triple}
 use denote.Triple.Call.{calls-at}
@@ -39,18 +38,11 @@ use denote.Triple.Walked.{says, Stays, stay-dropped, walkOf, AllGo, goes-dropped
 use denote.Triple.Clauses.{Clauses, Ended, ensured, lasts, closing}
 use denote.Exit.{yes}
 use Rattle.thin.proofs.Cells.{lay, unlay}
-use Rattle.thin.proofs.Forms.{still, keeps, Passed, Plain, Kind}
+use Rattle.thin.proofs.Forms.{still, keeps, Passed, Plain, Kind, Names, names}
 use Rattle.thin.proofs.LookOne.{own-ended, own-clauses}
 
 module _ (K : Kind) (B : Plain) (Z₁ : Plain) (P : K .N .D → Z₁ .row .Denot → B .row .Denot → Type 0) (#thin : Name) where
-  abbrev N : Declared
-  N = K .N
-
-  abbrev L : LL.Laws N
-  L = K .L
-
-  abbrev pl : Plains (fields N)
-  pl = K .pl
+  open Names (names K) using (N, L, pl, Tr, τT, val)
 
   abbrev Y : RattleType
   Y = B .row
@@ -72,15 +64,6 @@ module _ (K : Kind) (B : Plain) (Z₁ : Plain) (P : K .N .D → Z₁ .row .Denot
 
   abbrev pX₁ : Passed X₁ τX₁
   pX₁ = keeps (Z₁ .passed)
-
-  abbrev Tr : RattleType
-  Tr = row N
-
-  abbrev τT : Ty
-  τT = layout (shape N)
-
-  abbrev val : N .D → Val
-  val = LL.val N L
 
   abbrev thin-ended : Ended
   thin-ended = own-ended K B Z₁ P #thin

@@ -29,8 +29,7 @@ use denote.Ref.{RefT, ShrRef, ptr-vals, shr-tells, now, ptr, name}
 use denote.Signature.{plain, shrRefTo, shrSliceOf}
 use denote.Steps.{looks, shuts, only, owned, peeks, heard, nothing}
 use denote.Struct.Steps.{spelt}
-use denote.Struct.Declared.{Declared, row, shape, fields}
-use denote.Struct.Struct.{Plains, layout}
+use denote.Struct.Declared.{row}
 use denote.Struct.Laws as LL
 use denote.Triple.Statement.{Contract, Triple}
 use denote.Triple.Call.{calls-at}
@@ -40,17 +39,10 @@ use denote.Triple.Table.{entered, cited}
 use denote.Triple.Walked.{says, Stays, stay-dropped, walkOf, AllGo, goes-dropped, Walks, ends-at, walked, walk-meets}
 use denote.Triple.Clauses.{Clauses, Ended, ensured, lasts, closing}
 use denote.Exit.{yes}
-use Rattle.thin.proofs.Forms.{Passed, Plain, Kind}
+use Rattle.thin.proofs.Forms.{Passed, Plain, Kind, Names, names}
 
 module _ (K : Kind) (B : Plain) (w₁ : Width) (w₂ : Width) (P : K .N .D → List ℕ → List ℕ → B .row .Denot → Type 0) (#core : Name) where
-  abbrev N : Declared
-  N = K .N
-
-  abbrev L : LL.Laws N
-  L = K .L
-
-  abbrev pl : Plains (fields N)
-  pl = K .pl
+  open Names (names K) using (N, L, pl, Tr, τT, val)
 
   abbrev Y : RattleType
   Y = B .row
@@ -66,15 +58,6 @@ module _ (K : Kind) (B : Plain) (w₁ : Width) (w₂ : Width) (P : K .N .D → L
 
   abbrev A₂ : RattleType
   A₂ = UInt w₂
-
-  abbrev Tr : RattleType
-  Tr = row N
-
-  abbrev τT : Ty
-  τT = layout (shape N)
-
-  abbrev val : N .D → Val
-  val = LL.val N L
 
   abbrev pub own-ended : Ended
   own-ended = record {

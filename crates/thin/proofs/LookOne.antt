@@ -26,8 +26,7 @@ use denote.Ref.{RefT, ShrRef, ptr-vals, shr-tells, now, ptr, name}
 use denote.Signature.{plain, shrRefTo}
 use denote.Steps.{looks, shuts, only, owned, peeks, heard, nothing}
 use denote.Struct.Steps.{spelt}
-use denote.Struct.Declared.{Declared, row, shape, fields}
-use denote.Struct.Struct.{Plains, layout}
+use denote.Struct.Declared.{row}
 use denote.Struct.Laws as LL
 use denote.Triple.Statement.{Contract, Triple}
 use denote.Triple.Call.{calls-at}
@@ -37,17 +36,10 @@ use denote.Triple.Table.{entered, cited}
 use denote.Triple.Walked.{says, Stays, stay-dropped, walkOf, AllGo, goes-dropped, Walks, ends-at, walked, walk-meets}
 use denote.Triple.Clauses.{Clauses, Ended, ensured, lasts, closing}
 use denote.Exit.{yes}
-use Rattle.thin.proofs.Forms.{still, keeps, Passed, Plain, Kind}
+use Rattle.thin.proofs.Forms.{still, keeps, Passed, Plain, Kind, Names, names}
 
 module _ (K : Kind) (B : Plain) (Z₁ : Plain) (P : K .N .D → Z₁ .row .Denot → B .row .Denot → Type 0) (#core : Name) where
-  abbrev N : Declared
-  N = K .N
-
-  abbrev L : LL.Laws N
-  L = K .L
-
-  abbrev pl : Plains (fields N)
-  pl = K .pl
+  open Names (names K) using (N, L, pl, Tr, τT, val)
 
   abbrev Y : RattleType
   Y = B .row
@@ -69,15 +61,6 @@ module _ (K : Kind) (B : Plain) (Z₁ : Plain) (P : K .N .D → Z₁ .row .Denot
 
   abbrev pX₁ : Passed X₁ τX₁
   pX₁ = keeps (Z₁ .passed)
-
-  abbrev Tr : RattleType
-  Tr = row N
-
-  abbrev τT : Ty
-  τT = layout (shape N)
-
-  abbrev val : N .D → Val
-  val = LL.val N L
 
   abbrev pub own-ended : Ended
   own-ended = record {
