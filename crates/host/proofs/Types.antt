@@ -3,7 +3,7 @@
 use mathlib.Core.Path.{refl, ap}
 use denote.Steps.{only}
 use denote.Struct.Laws as laws
-use Rattle.thin.proofs.Forms.{Plain, Kind, struct, enum}
+use Rattle.thin.proofs.Forms.{Plain, Lendable, Done, struct, enum}
 use Rattle.state.proofs.layout.Target as Target
 use Rattle.state.proofs.layout.Target.Laws as Target′
 use Rattle.matching.proofs.layout.Entry as Entry
@@ -98,14 +98,14 @@ ready-answer = enum ReadyAnswer.the-type ReadyAnswer′.the-laws ReadyAnswer′.
 abbrev pub poll-answer : Plain
 poll-answer = enum PollAnswer.the-type PollAnswer′.the-laws PollAnswer′.the-plain tt
 
--- ## Target and answer
+-- ## The target, and what the calls by value hand back
 
-abbrev pub new-done : Kind
+abbrev pub target : Lendable
+target = record { N = Target.the-type; L = Target′.the-laws; pl = Target′.the-plain; cp = Target′.the-copy }
+
+abbrev pub new-done : Done
 new-done = record {
-  N = Target.the-type;
-  L = Target′.the-laws;
-  pl = Target′.the-plain;
-  cp = Target′.the-copy;
+  T = target;
   Y = new-answer;
   D = NewDone.the-row;
   ν = NewDone.struct .name;
@@ -120,12 +120,9 @@ new-done = record {
   makes = λ M 𝓤 H A W. laws.makes NewDone.the-type NewDone′.the-plain 𝓤 H A;
 }
 
-abbrev pub append-done : Kind
+abbrev pub append-done : Done
 append-done = record {
-  N = Target.the-type;
-  L = Target′.the-laws;
-  pl = Target′.the-plain;
-  cp = Target′.the-copy;
+  T = target;
   Y = append-answer;
   D = AppendDone.the-row;
   ν = AppendDone.struct .name;
@@ -140,12 +137,9 @@ append-done = record {
   makes = λ M 𝓤 H A W. laws.makes AppendDone.the-type AppendDone′.the-plain 𝓤 H A;
 }
 
-abbrev pub plain-done : Kind
+abbrev pub plain-done : Done
 plain-done = record {
-  N = Target.the-type;
-  L = Target′.the-laws;
-  pl = Target′.the-plain;
-  cp = Target′.the-copy;
+  T = target;
   Y = plain-answer;
   D = PlainDone.the-row;
   ν = PlainDone.struct .name;
@@ -160,12 +154,9 @@ plain-done = record {
   makes = λ M 𝓤 H A W. laws.makes PlainDone.the-type PlainDone′.the-plain 𝓤 H A;
 }
 
-abbrev pub search-done : Kind
+abbrev pub search-done : Done
 search-done = record {
-  N = Target.the-type;
-  L = Target′.the-laws;
-  pl = Target′.the-plain;
-  cp = Target′.the-copy;
+  T = target;
   Y = search-answer;
   D = SearchDone.the-row;
   ν = SearchDone.struct .name;
@@ -180,12 +171,9 @@ search-done = record {
   makes = λ M 𝓤 H A W. laws.makes SearchDone.the-type SearchDone′.the-plain 𝓤 H A;
 }
 
-abbrev pub request-done : Kind
+abbrev pub request-done : Done
 request-done = record {
-  N = Target.the-type;
-  L = Target′.the-laws;
-  pl = Target′.the-plain;
-  cp = Target′.the-copy;
+  T = target;
   Y = request-answer;
   D = RequestDone.the-row;
   ν = RequestDone.struct .name;
@@ -200,12 +188,9 @@ request-done = record {
   makes = λ M 𝓤 H A W. laws.makes RequestDone.the-type RequestDone′.the-plain 𝓤 H A;
 }
 
-abbrev pub event-done : Kind
+abbrev pub event-done : Done
 event-done = record {
-  N = Target.the-type;
-  L = Target′.the-laws;
-  pl = Target′.the-plain;
-  cp = Target′.the-copy;
+  T = target;
   Y = event-answer;
   D = EventDone.the-row;
   ν = EventDone.struct .name;

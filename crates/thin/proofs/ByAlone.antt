@@ -1,6 +1,7 @@
--- A function by value over a thin one (`ThinAlone.antt`), so that whoever calls it needs no walk:
+-- A call by value over one that is lent its target (`ThinAlone.antt`): code that the borrow checker covers cannot lend a struct, and calls this.
 --     pub fn g(t: T) -> D { let mut u = t; let a = f(&mut u); D { target: u, answer: a } }
--- Its contract is the core's, `P t r`. The local is lent for a lifetime that is made for the call, and comes back at the last value that f's contract says. Assumes `Given`.
+-- It promises what the call by value behind f promises, `P t r`. The local is lent for a lifetime that is made for the call, and comes back at the last value that f's contract says.
+--     by-meets       g's MIR meets g's contract, if f meets f's. Assumes `Given`.        by-alone       the same of the function by its name, which a call's proof cites. Assumes nothing
 use mathlib.Core.Path.{_≡_, refl, ap, subst}
 use Prim.Native.Nat.{ℕ}
 use mathlib.Core.List.{[], _∷_, List}
@@ -39,15 +40,17 @@ use denote.Triple.Walked.{says, Stays, stay-dropped, walkOf, AllGo, goes-dropped
 use denote.Triple.Clauses.{Clauses, Ended, ensured, lasts, closing}
 use denote.Exit.{yes}
 use Rattle.thin.proofs.Cells.{lay, unlay}
-use Rattle.thin.proofs.Forms.{still, Kind, Names, names}
+use Rattle.thin.proofs.Forms.{still, Done, TargetNames, target-names, DoneNames, done-names}
 use Rattle.thin.proofs.ThinAlone.{own-ended, own-clauses}
 
-module _ (K : Kind) (P : K .N .D → K .D .Denot → Type 0) (#thin : Name) where
-  open Names (names K) using (N, L, pl, Tr, τT, val, Y, τY, pY, D, τD)
+module _ (K : Done) (P : K .T .N .D → K .D .Denot → Type 0) (#thin : Name) where
+  open TargetNames (target-names (K .T)) using (N, L, pl, Tr, τT, val)
+  open DoneNames (done-names K) using (Y, τY, pY, D, τD)
 
   abbrev vD : N .D → Y .Denot → Val
   vD z y = vstruct (vcons (val z) (vcons (pY .val y) vnil))
 
+  -- parameters and result of f and of g
   abbrev thin-ended : Ended
   thin-ended = own-ended K P #thin
 
@@ -57,6 +60,7 @@ module _ (K : Kind) (P : K .N .D → K .D .Denot → Type 0) (#thin : Name) wher
     kept = (yes, tt);
   }
 
+  -- g's MIR
   abbrev pub function : Fn
   function = record {
     lifetimes = 0;
@@ -66,10 +70,12 @@ module _ (K : Kind) (P : K .N .D → K .D .Denot → Type 0) (#thin : Name) wher
     body = seq (assign (place 2 []) (rvOpd (copy (place 1 [])))) (seq (assign (place 4 []) (addrOf (place 2 []))) (seq (call #thin (copy (place 4 []) ∷ []) (place 3 [])) (seq (assign (place 5 []) (rvOpd (copy (place 2 [])))) (seq (assign (place 0 []) (aggregate (copy (place 5 []) ∷ copy (place 3 []) ∷ []))) return))));
   }
 
+  -- what becomes of each parameter
   abbrev stayed : Stays (by-ended .signature .params) (by-ended .kept)
   stayed = (stay-dropped (plain (λ _. still Tr)) yes, tt)
 
   module _ {M : Type 1} (𝓤 : URA M) (H : Heap 𝓤) (A : Atoms 𝓤) where
+    -- the two contracts
     abbrev pub by-clauses : Clauses 𝓤 by-ended
     by-clauses κs a = record { ghost = Unit {0}; requires = λ _. emp 𝓤; ensures = λ _ r e. fact 𝓤 (P (a .0) r) }
 
@@ -93,30 +99,34 @@ module _ (K : Kind) (P : K .N .D → K .D .Denot → Type 0) (#thin : Name) wher
         abbrev Post : Val → SProp 𝓤
         Post = walkOf 𝓤 H A by-ended stayed by-clauses .post ((tt, tt, tt, a, at), tt)
 
-        abbrev Lentd : Type 0
-        Lentd = RefT (N .D) × Unit {0}
+        abbrev Lent : Type 0
+        Lent = RefT (N .D) × Unit {0}
 
-        abbrev x : ℕ → GName → Lentd
+        abbrev x : ℕ → GName → Lent
         x b γ = (record { ptr = (b, 0); name = γ; now = h }, tt)
 
         abbrev toks : Item 𝓤
         toks = ‵ ftrue
 
+        -- what f is handed
         abbrev to-thin : ℕ → ℕ → GName → Thin .Ghost
         to-thin α b γ = (((α ∷ [], tt), (fullShare, tt), tt, x b γ, (vptr b 0 ∷ [], tt)), tt)
 
         goes-thin : (α b : ℕ) (γ : GName) → ent 𝓤 (⋆ 𝓤 H A (‵ (flft (α ∷ []) fullShare) ∷ ‵ (MutRef (named 0) (α ∷ []) Tr .own (x b γ .0) (vptr b 0 ∷ [])) ∷ toks ∷ [])) (Thin .pre (to-thin α b γ))
         goes-thin α b γ = qed W (‵ (flft (α ∷ []) fullShare) ∷ ‵ (MutRef (named 0) (α ∷ []) Tr .own (x b γ .0) (vptr b 0 ∷ [])) ∷ toks ∷ []) ∵ nothing ! $ move ! (2 ∷ 0 ∷ []) $ fjoin ! $ move ! (1 ∷ 2 ∷ []) $ join ! $ join ! $ frame ! $ done !
 
+        -- what the contract says of a result
         abbrev Said : D .Denot → Type 0
         Said r = P h r
 
+        -- what is had at the end is what g's contract promises
         exits : (z : N .D) (y : Y .Denot) → Said (K .make z y) → Is D (K .make z y) (vD z y ∷ []) → ent 𝓤 (⋆ 𝓤 H A (toks ∷ [])) (Post (vD z y))
         exits z y e d-is =
             qed W (toks ∷ []) ∵ suffices ! _ (ends-at 𝓤 H A by-ended stayed by-clauses W ((tt, tt, tt, a, at), tt) (vD z y) (K .make z y) (tt, tt) (tt, tt)) $ says ! e $
             frame ! $ nothing ! $ nothing ! $ fjoin ! $ owned ! D (Is D) (K .makes M 𝓤 H A W) (K .make z y) _ d-is $ move ! (1 ∷ 0 ∷ []) $ done !
 
         module _ (C : Calls 𝓤 H) (Λ : Loops 𝓤 H) (fm : FmC 𝓤 H (W .laws) C) (known : Triple 𝓤 (C #thin) Thin) where
+          -- g's MIR, statement by statement
           walk : ent 𝓤 (onEntry 𝓤 H A (by-ended .signature) tt tt a at) (WpFn 𝓤 H C Λ function (val h ∷ []) Post)
           walk =
               qed W (toks ∷ ‵ (owns (still Tr ∷ []) a at) ∷ []) ∵ enter ! C Λ function (val h ∷ []) _ $

@@ -1,6 +1,7 @@
--- A thin function that only reads the target, proved once for all of its form:
---     pub fn f(t: &T, a1: &[A], a2: &[A]) -> Y { core(*t, a1, a2) }
--- core's contract is `P t (now (a1 .entry)) (now (a2 .entry)) r`, and f's `P (now (t .entry)) (now (a1 .entry)) (now (a2 .entry)) r`. Of K only the target is used; B is the answer's type. Assumes `Given`.
+-- A call that only reads a lent target, proved once for every call of its form:
+--     pub fn f(t: &T, a: &[A], b: &[B]) -> Y { core(*t, a, b) }
+-- The call by value, core, promises `P t (now (a .entry)) (now (b .entry)) r`, for any P, and f `P (now (t .entry)) (now (a .entry)) (now (b .entry)) r`. B is the answer's type.
+--     look-meets       f's MIR meets f's contract, if core meets core's. Assumes `Given`.        look-lists       the same of the function by its name, which a call's proof cites. Assumes nothing
 use mathlib.Core.Path.{_≡_, refl, ap, subst}
 use Prim.Native.Nat.{ℕ}
 use mathlib.Core.List.{[], _∷_, List}
@@ -39,10 +40,10 @@ use denote.Triple.Table.{entered, cited}
 use denote.Triple.Walked.{says, Stays, stay-dropped, walkOf, AllGo, goes-dropped, Walks, ends-at, walked, walk-meets}
 use denote.Triple.Clauses.{Clauses, Ended, ensured, lasts, closing}
 use denote.Exit.{yes}
-use Rattle.thin.proofs.Forms.{Passed, Plain, Kind, Names, names}
+use Rattle.thin.proofs.Forms.{Passed, Plain, Lendable, TargetNames, target-names}
 
-module _ (K : Kind) (B : Plain) (w₁ : Width) (w₂ : Width) (P : K .N .D → List ℕ → List ℕ → B .row .Denot → Type 0) (#core : Name) where
-  open Names (names K) using (N, L, pl, Tr, τT, val)
+module _ (T : Lendable) (B : Plain) (w₁ : Width) (w₂ : Width) (P : T .N .D → List ℕ → List ℕ → B .row .Denot → Type 0) (#core : Name) where
+  open TargetNames (target-names T) using (N, L, pl, Tr, τT, val)
 
   abbrev Y : RattleType
   Y = B .row
@@ -59,6 +60,7 @@ module _ (K : Kind) (B : Plain) (w₁ : Width) (w₂ : Width) (P : K .N .D → L
   abbrev A₂ : RattleType
   A₂ = UInt w₂
 
+  -- parameters and result of f and of core
   abbrev pub own-ended : Ended
   own-ended = record {
     signature = record { lifetimes = 3; outlives = []; params = shrRefTo (0 ∷ []) tt (plain (λ _. Tr)) ∷ shrSliceOf (1 ∷ []) tt (plain (λ _. A₁)) ∷ shrSliceOf (2 ∷ []) tt (plain (λ _. A₂)) ∷ []; result = plain (λ _. Y) };
@@ -71,6 +73,7 @@ module _ (K : Kind) (B : Plain) (w₁ : Width) (w₂ : Width) (P : K .N .D → L
     kept = (yes, (yes, (yes, tt)));
   }
 
+  -- f's MIR
   abbrev pub function : Fn
   function = record {
     lifetimes = 3;
@@ -80,10 +83,12 @@ module _ (K : Kind) (B : Plain) (w₁ : Width) (w₂ : Width) (P : K .N .D → L
     body = seq (assign (place 4 []) (rvOpd (copy (place 1 (deref τT ∷ []))))) (seq (call #core (copy (place 4 []) ∷ copy (place 2 []) ∷ copy (place 3 []) ∷ []) (place 0 [])) return);
   }
 
+  -- what becomes of each parameter
   abbrev stayed : Stays (own-ended .signature .params) (own-ended .kept)
   stayed = (stay-dropped (shrRefTo (0 ∷ []) tt (plain (λ _. Tr))) yes, (stay-dropped (shrSliceOf (1 ∷ []) tt (plain (λ _. A₁))) yes, (stay-dropped (shrSliceOf (2 ∷ []) tt (plain (λ _. A₂))) yes, tt)))
 
   module _ {M : Type 1} (𝓤 : URA M) (H : Heap 𝓤) (A : Atoms 𝓤) where
+    -- the two contracts
     abbrev pub own-clauses : Clauses 𝓤 own-ended
     own-clauses κs a = record { ghost = Unit {0}; requires = λ _. emp 𝓤; ensures = λ _ r e. fact 𝓤 (P (now (a .0)) (now (a .1 .0)) (now (a .1 .1 .0)) r) }
 
@@ -122,30 +127,34 @@ module _ (K : Kind) (B : Plain) (w₁ : Width) (w₂ : Width) (P : K .N .D → L
         abbrev passed : In
         passed = (h, (x₁, (x₂, tt)))
 
+        -- what core is handed
         abbrev to-core : Core .Ghost
         to-core = (((κ₁, (κ₂, tt)), (q₁, (q₂, tt)), tt, passed, (val h ∷ [], (s₁ ∷ [], (s₂ ∷ [], tt)))), tt)
 
         goes-core : Is Tr h (val h ∷ []) → ent 𝓤 (⋆ 𝓤 H A (‵ (ShrSlice (named 1) κ₁ A₁ .own x₁ (s₁ ∷ [])) ∷ ‵ (ShrSlice (named 2) κ₂ A₂ .own x₂ (s₂ ∷ [])) ∷ toks ∷ [])) (Core .pre to-core)
         goes-core g = qed W (‵ (ShrSlice (named 1) κ₁ A₁ .own x₁ (s₁ ∷ [])) ∷ ‵ (ShrSlice (named 2) κ₂ A₂ .own x₂ (s₂ ∷ [])) ∷ toks ∷ []) ∵ nothing ! $ move ! (2 ∷ 0 ∷ []) $ fjoin ! $ move ! (1 ∷ 0 ∷ []) $ fjoin ! $ owned ! Tr (Is Tr) (LL.makes N pl 𝓤 H A) h _ g $ fjoin ! $ move ! (1 ∷ []) $ join ! $ frame ! $ done !
 
+        -- what core says of its result
         abbrev Said : Y .Denot → Type 0
         Said y = P h (now x₁) (now x₂) y
 
         got-of : (y : Y .Denot) → ent 𝓤 (ensured 𝓤 H A core-ended core-clauses (κ₁, (κ₂, tt)) passed tt y) (fact 𝓤 (Said y))
         got-of y = exE 𝓤 _ (λ ws. snd∗ 𝓤 (sem 𝓤 H A (lasts core-ended (κ₁, (κ₂, tt)) passed ws)) (fact 𝓤 (Said y)))
 
+        -- what is had at the end is what f's contract promises
         exits : (y : Y .Denot) → Said y → Is Y y (pY .val y ∷ []) → ent 𝓤 (⋆ 𝓤 H A (‵ (flft κ q) ∷ toks ∷ [])) (Post (pY .val y))
         exits y e y-is =
             qed W (‵ (flft κ q) ∷ toks ∷ []) ∵ suffices ! _ (ends-at 𝓤 H A own-ended stayed own-clauses W (((κ, (κ₁, (κ₂, tt))), (q, (q₁, (q₂, tt))), tt, x, at), tt) (pY .val y) y (tt, (tt, (tt, tt))) (tt, (tt, (tt, tt)))) $ says ! e $
             join ! $ frame ! $ nothing ! $ nothing ! $ fjoin ! $ nothing ! $ fjoin ! $ nothing ! $ fjoin ! $ owned ! Y (Is Y) (pY .makes M 𝓤 H A W) y _ y-is $ move ! (1 ∷ 0 ∷ []) $ done !
 
         module _ (C : Calls 𝓤 H) (Λ : Loops 𝓤 H) (fm : FmC 𝓤 H (W .laws) C) (known : Triple 𝓤 (C #core) Core) where
+          -- f's MIR, statement by statement
           walk : ent 𝓤 (onEntry 𝓤 H A (own-ended .signature) (κ, (κ₁, (κ₂, tt))) (q, (q₁, (q₂, tt))) x at) (WpFn 𝓤 H C Λ function (vptr b o ∷ s₁ ∷ s₂ ∷ []) Post)
           walk =
               qed W ((‵ (flft κ q) ⊛ toks) ∷ ‵ (owns (ShrRef (named 0) κ Tr ∷ ShrSlice (named 1) κ₁ A₁ ∷ ShrSlice (named 2) κ₂ A₂ ∷ []) x at) ∷ []) ∵ split ! $ move ! (2 ∷ []) $ fsplit ! $ fsplit3 ! $ drop ! $ drop ! $ move ! (1 ∷ []) $ fsplit ! $ move ! (1 ∷ []) $ fsplit ! $ move ! (3 ∷ 4 ∷ 2 ∷ 0 ∷ 5 ∷ []) $
               enter ! C Λ function (vptr b o ∷ s₁ ∷ s₂ ∷ []) _ $
               alloc1 ! (λ l₀. alloc1 ! (λ l₁. alloc1 ! (λ l₂. alloc1 ! (λ l₃. alloc1 ! (λ l₄. alloc0 ! $ params1 ! $ pass1 ! (init ! 6 refl (tt, tt)) $ pass1 ! (init ! 4 refl (tt, (tt, (record { fits = room₁ .0 }, tt)))) $ pass1 ! (init ! 2 refl (tt, (tt, (record { fits = room₂ .0 }, tt)))) $ pass0 ! $ move ! (10 ∷ 11 ∷ []) $
-              looks ! tt Tr (Is Tr) (shows 𝓤 H A Tr) (LL.vals N L) (LL.tells N L) (LL.copy N (K .cp) 𝓤 H A W) h b o (λ q′ vs. spelt ! Tr (Is Tr) (shows 𝓤 H A Tr) (LL.vals N L) (LL.tells N L) q′ h vs b o $
+              looks ! tt Tr (Is Tr) (shows 𝓤 H A Tr) (LL.vals N L) (LL.tells N L) (LL.copy N (T .cp) 𝓤 H A W) h b o (λ q′ vs. spelt ! Tr (Is Tr) (shows 𝓤 H A Tr) (LL.vals N L) (LL.tells N L) q′ h vs b o $
               move ! (1 ∷ []) $ peeks ! Tr (Is Tr) (shows 𝓤 H A Tr) h (val h ∷ []) (λ g. move ! (1 ∷ 0 ∷ []) $
               -- [the struct's cell; what it owns; the open borrow; the borrow; the locals, the last first; ..]
               assigns ! (of-opd ! (load ! (from ! (hop ! (look ! 10 refl) (stop !))) (look-raw ! 0 refl))) (from ! (stop !)) (init ! 4 refl (LL.lawful N L 𝓤 H A W .typed h _ g .0)) $ shuts ! tt Tr q′ h (val h ∷ []) b o $ move ! (12 ∷ 13 ∷ 14 ∷ []) $ group ! 3 $ use1 W (raw (Core .pre to-core)) (goes-core g) $

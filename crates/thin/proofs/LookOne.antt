@@ -1,6 +1,7 @@
--- A thin function that only reads the target, proved once for all of its form:
+-- A call that only reads a lent target, proved once for every call of its form:
 --     pub fn f(t: &T, x: X) -> Y { core(*t, x) }
--- core's contract is `P t x r`, and f's `P (now (t .entry)) x r`. Of K only the target is used; B is the answer's type. Assumes `Given`.
+-- The call by value, core, promises `P t x r`, for any P, and f `P (now (t .entry)) x r`. B is the answer's type.
+--     look-meets       f's MIR meets f's contract, if core meets core's. Assumes `Given`.        look-one       the same of the function by its name, which a call's proof cites. Assumes nothing
 use mathlib.Core.Path.{_≡_, refl, ap, subst}
 use Prim.Native.Nat.{ℕ}
 use mathlib.Core.List.{[], _∷_, List}
@@ -36,10 +37,10 @@ use denote.Triple.Table.{entered, cited}
 use denote.Triple.Walked.{says, Stays, stay-dropped, walkOf, AllGo, goes-dropped, Walks, ends-at, walked, walk-meets}
 use denote.Triple.Clauses.{Clauses, Ended, ensured, lasts, closing}
 use denote.Exit.{yes}
-use Rattle.thin.proofs.Forms.{still, keeps, Passed, Plain, Kind, Names, names}
+use Rattle.thin.proofs.Forms.{still, keeps, Passed, Plain, Lendable, TargetNames, target-names}
 
-module _ (K : Kind) (B : Plain) (Z₁ : Plain) (P : K .N .D → Z₁ .row .Denot → B .row .Denot → Type 0) (#core : Name) where
-  open Names (names K) using (N, L, pl, Tr, τT, val)
+module _ (T : Lendable) (B : Plain) (Z₁ : Plain) (P : T .N .D → Z₁ .row .Denot → B .row .Denot → Type 0) (#core : Name) where
+  open TargetNames (target-names T) using (N, L, pl, Tr, τT, val)
 
   abbrev Y : RattleType
   Y = B .row
@@ -62,6 +63,7 @@ module _ (K : Kind) (B : Plain) (Z₁ : Plain) (P : K .N .D → Z₁ .row .Denot
   abbrev pX₁ : Passed X₁ τX₁
   pX₁ = keeps (Z₁ .passed)
 
+  -- parameters and result of f and of core
   abbrev pub own-ended : Ended
   own-ended = record {
     signature = record { lifetimes = 1; outlives = []; params = shrRefTo (0 ∷ []) tt (plain (λ _. Tr)) ∷ plain (λ _. X₁) ∷ []; result = plain (λ _. Y) };
@@ -74,6 +76,7 @@ module _ (K : Kind) (B : Plain) (Z₁ : Plain) (P : K .N .D → Z₁ .row .Denot
     kept = (yes, (yes, tt));
   }
 
+  -- f's MIR
   abbrev pub function : Fn
   function = record {
     lifetimes = 1;
@@ -83,10 +86,12 @@ module _ (K : Kind) (B : Plain) (Z₁ : Plain) (P : K .N .D → Z₁ .row .Denot
     body = seq (assign (place 3 []) (rvOpd (copy (place 1 (deref τT ∷ []))))) (seq (call #core (copy (place 3 []) ∷ copy (place 2 []) ∷ []) (place 0 [])) return);
   }
 
+  -- what becomes of each parameter
   abbrev stayed : Stays (own-ended .signature .params) (own-ended .kept)
   stayed = (stay-dropped (shrRefTo (0 ∷ []) tt (plain (λ _. Tr))) yes, (stay-dropped (plain (λ _. X₁)) yes, tt))
 
   module _ {M : Type 1} (𝓤 : URA M) (H : Heap 𝓤) (A : Atoms 𝓤) where
+    -- the two contracts
     abbrev pub own-clauses : Clauses 𝓤 own-ended
     own-clauses κs a = record { ghost = Unit {0}; requires = λ _. emp 𝓤; ensures = λ _ r e. fact 𝓤 (P (now (a .0)) (a .1 .0) r) }
 
@@ -119,30 +124,34 @@ module _ (K : Kind) (B : Plain) (Z₁ : Plain) (P : K .N .D → Z₁ .row .Denot
         abbrev passed : In
         passed = (h, (n₁, tt))
 
+        -- what core is handed
         abbrev to-core : Core .Ghost
         to-core = ((tt, tt, tt, passed, (val h ∷ [], (pX₁ .val n₁ ∷ [], tt))), tt)
 
         goes-core : Is Tr h (val h ∷ []) → ent 𝓤 (⋆ 𝓤 H A ([])) (Core .pre to-core)
         goes-core g = qed W ([]) ∵ nothing ! $ owned ! X₁ (Is X₁) (pX₁ .makes M 𝓤 H A W) n₁ _ is₁ $ fjoin ! $ owned ! Tr (Is Tr) (LL.makes N pl 𝓤 H A) h _ g $ fjoin ! $ nothing ! $ join ! $ frame ! $ done !
 
+        -- what core says of its result
         abbrev Said : Y .Denot → Type 0
         Said y = P h n₁ y
 
         got-of : (y : Y .Denot) → ent 𝓤 (ensured 𝓤 H A core-ended core-clauses tt passed tt y) (fact 𝓤 (Said y))
         got-of y = exE 𝓤 _ (λ ws. snd∗ 𝓤 (sem 𝓤 H A (lasts core-ended tt passed ws)) (fact 𝓤 (Said y)))
 
+        -- what is had at the end is what f's contract promises
         exits : (y : Y .Denot) → Said y → Is Y y (pY .val y ∷ []) → ent 𝓤 (⋆ 𝓤 H A (‵ (flft κ q) ∷ toks ∷ [])) (Post (pY .val y))
         exits y e y-is =
             qed W (‵ (flft κ q) ∷ toks ∷ []) ∵ suffices ! _ (ends-at 𝓤 H A own-ended stayed own-clauses W (((κ, tt), (q, tt), tt, x, at), tt) (pY .val y) y (tt, (tt, tt)) (tt, (tt, tt))) $ says ! e $
             join ! $ frame ! $ nothing ! $ nothing ! $ fjoin ! $ nothing ! $ fjoin ! $ owned ! Y (Is Y) (pY .makes M 𝓤 H A W) y _ y-is $ move ! (1 ∷ 0 ∷ []) $ done !
 
         module _ (C : Calls 𝓤 H) (Λ : Loops 𝓤 H) (fm : FmC 𝓤 H (W .laws) C) (known : Triple 𝓤 (C #core) Core) where
+          -- f's MIR, statement by statement
           walk : ent 𝓤 (onEntry 𝓤 H A (own-ended .signature) (κ, tt) (q, tt) x at) (WpFn 𝓤 H C Λ function (vptr b o ∷ pX₁ .val n₁ ∷ []) Post)
           walk =
               qed W ((‵ (flft κ q) ⊛ toks) ∷ ‵ (owns (ShrRef (named 0) κ Tr ∷ X₁ ∷ []) x at) ∷ []) ∵ split ! $ move ! (2 ∷ []) $ fsplit ! $ fsplit3 ! $ drop ! $ drop ! $ move ! (0 ∷ 2 ∷ 3 ∷ []) $
               enter ! C Λ function (vptr b o ∷ pX₁ .val n₁ ∷ []) _ $
               alloc1 ! (λ l₀. alloc1 ! (λ l₁. alloc1 ! (λ l₂. alloc1 ! (λ l₃. alloc0 ! $ params1 ! $ pass1 ! (init ! 4 refl (tt, tt)) $ pass1 ! (init ! 2 refl (pX₁ .typed M 𝓤 H A W n₁ _ is₁)) $ pass0 ! $ move ! (8 ∷ 9 ∷ []) $
-              looks ! tt Tr (Is Tr) (shows 𝓤 H A Tr) (LL.vals N L) (LL.tells N L) (LL.copy N (K .cp) 𝓤 H A W) h b o (λ q′ vs. spelt ! Tr (Is Tr) (shows 𝓤 H A Tr) (LL.vals N L) (LL.tells N L) q′ h vs b o $
+              looks ! tt Tr (Is Tr) (shows 𝓤 H A Tr) (LL.vals N L) (LL.tells N L) (LL.copy N (T .cp) 𝓤 H A W) h b o (λ q′ vs. spelt ! Tr (Is Tr) (shows 𝓤 H A Tr) (LL.vals N L) (LL.tells N L) q′ h vs b o $
               move ! (1 ∷ []) $ peeks ! Tr (Is Tr) (shows 𝓤 H A Tr) h (val h ∷ []) (λ g. move ! (1 ∷ 0 ∷ []) $
               -- [the struct's cell; what it owns; the open borrow; the borrow; the locals, the last first; ..]
               assigns ! (of-opd ! (load ! (from ! (hop ! (look ! 8 refl) (stop !))) (look-raw ! 0 refl))) (from ! (stop !)) (init ! 4 refl (LL.lawful N L 𝓤 H A W .typed h _ g .0)) $ shuts ! tt Tr q′ h (val h ∷ []) b o $ use0 W (raw (Core .pre to-core)) (goes-core g) $

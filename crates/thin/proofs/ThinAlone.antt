@@ -1,8 +1,7 @@
--- A thin function over a struct that is lent by `&mut`, proved once for all of its form:
+-- A call over a lent target, proved once for every call of its form:
 --     pub fn f(t: &mut T) -> Y { let r = core(*t); *t = r.target; r.answer }
--- core's contract is `P t r`, for any P, and f's `P (now (t .entry)) (record { target = now (t .exit); answer = r })`.
---     own-meets       f's MIR meets f's contract, if core meets core's.        thin-alone       the same of the function
--- Assumes `Given`.
+-- The call by value, core, promises `P t r`, for any P, and f `P (now (t .entry)) (record { target = now (t .exit); answer = r })`.
+--     own-meets       f's MIR meets f's contract, if core meets core's. Assumes `Given`.        thin-alone       the same of the function by its name, which a call's proof cites. Assumes nothing
 use mathlib.Core.Path.{_≡_, refl, sym, subst}
 use Prim.Native.Nat.{ℕ}
 use mathlib.Core.List.{[], _∷_, List}
@@ -39,11 +38,13 @@ use denote.Triple.Table.{entered, cited}
 use denote.Triple.Walked.{says, Stays, stay-ref, walkOf, AllGo, goes-ref, Walks, ends-at, walked, walk-meets}
 use denote.Triple.Clauses.{Clauses, Ended, ensured, lasts, closing}
 use denote.Exit.{yes}
-use Rattle.thin.proofs.Forms.{still, Kind, Names, names}
+use Rattle.thin.proofs.Forms.{still, Done, TargetNames, target-names, DoneNames, done-names}
 
-module _ (K : Kind) (P : K .N .D → K .D .Denot → Type 0) (#core : Name) where
-  open Names (names K) using (N, L, pl, Tr, τT, val, Y, τY, pY, D, τD)
+module _ (K : Done) (P : K .T .N .D → K .D .Denot → Type 0) (#core : Name) where
+  open TargetNames (target-names (K .T)) using (N, L, pl, Tr, τT, val)
+  open DoneNames (done-names K) using (Y, τY, pY, D, τD)
 
+  -- parameters and result of f and of core
   abbrev pub own-ended : Ended
   own-ended = record {
     signature = record { lifetimes = 1; outlives = []; params = mutRefTo (0 ∷ []) tt (plain (λ _. Tr)) ∷ []; result = plain (λ _. Y) };
@@ -56,6 +57,7 @@ module _ (K : Kind) (P : K .N .D → K .D .Denot → Type 0) (#core : Name) wher
     kept = (yes, tt);
   }
 
+  -- f's MIR
   abbrev pub function : Fn
   function = record {
     lifetimes = 1;
@@ -65,10 +67,12 @@ module _ (K : Kind) (P : K .N .D → K .D .Denot → Type 0) (#core : Name) wher
     body = seq (assign (place 3 []) (rvOpd (copy (place 1 (deref τT ∷ []))))) (seq (call #core (copy (place 3 []) ∷ []) (place 2 [])) (seq (assign (place 1 (deref τT ∷ [])) (rvOpd (copy (place 2 (field 0 ∷ []))))) (seq (assign (place 0 []) (rvOpd (copy (place 2 (field 1 ∷ []))))) return)));
   }
 
+  -- what becomes of each parameter
   abbrev stayed : Stays (own-ended .signature .params) (own-ended .kept)
   stayed = (stay-ref (0 ∷ []) tt (plain (λ _. Tr)), tt)
 
   module _ {M : Type 1} (𝓤 : URA M) (H : Heap 𝓤) (A : Atoms 𝓤) where
+    -- the two contracts
     abbrev pub own-clauses : Clauses 𝓤 own-ended
     own-clauses κs a = record { ghost = Unit {0}; requires = λ _. emp 𝓤; ensures = λ _ r e. fact 𝓤 (P (now (a .0)) (K .make (now (e .0)) r)) }
 
@@ -101,18 +105,21 @@ module _ (K : Kind) (P : K .N .D → K .D .Denot → Type 0) (#core : Name) wher
         abbrev passed : In
         passed = (h, tt)
 
+        -- what core is handed
         abbrev to-core : Core .Ghost
         to-core = ((tt, tt, tt, passed, (val h ∷ [], tt)), tt)
 
         goes-core : Is Tr h (val h ∷ []) → ent 𝓤 (⋆ 𝓤 H A ([])) (Core .pre to-core)
         goes-core g = qed W ([]) ∵ nothing ! $ owned ! Tr (Is Tr) (LL.makes N pl 𝓤 H A) h _ g $ fjoin ! $ nothing ! $ join ! $ frame ! $ done !
 
+        -- what core says of its result
         abbrev Said : D .Denot → Type 0
         Said r = P h r
 
         got-of : (r : D .Denot) → ent 𝓤 (ensured 𝓤 H A core-ended core-clauses tt passed tt r) (fact 𝓤 (Said r))
         got-of r = exE 𝓤 _ (λ ws. snd∗ 𝓤 (sem 𝓤 H A (lasts core-ended tt passed ws)) (fact 𝓤 (Said r)))
 
+        -- what is had at the end is what f's contract promises
         exits : (r : D .Denot) → Said r → Is Y (K .answer r) (pY .val (K .answer r) ∷ []) → ent 𝓤 (⋆ 𝓤 H A (‵ (fobs γ (Tr .coded .code (K .target r))) ∷ ‵ (fbor κ (Body (mem Tr) b o γ)) ∷ ‵ (flft κ q) ∷ toks ∷ [])) (Post (pY .val (K .answer r)))
         exits r e y-is =
             qed W (‵ (fobs γ (Tr .coded .code (K .target r))) ∷ ‵ (fbor κ (Body (mem Tr) b o γ)) ∷ ‵ (flft κ q) ∷ toks ∷ []) ∵
@@ -121,6 +128,7 @@ module _ (K : Kind) (P : K .N .D → K .D .Denot → Type 0) (#core : Name) wher
             owned ! Y (Is Y) (pY .makes M 𝓤 H A W) (K .answer r) _ y-is $ move ! (1 ∷ 0 ∷ []) $ done !
 
         module _ (C : Calls 𝓤 H) (Λ : Loops 𝓤 H) (fm : FmC 𝓤 H (W .laws) C) (known : Triple 𝓤 (C #core) Core) where
+          -- f's MIR, statement by statement
           walk : ent 𝓤 (onEntry 𝓤 H A (own-ended .signature) (κ, tt) (q, tt) x at) (WpFn 𝓤 H C Λ function (vptr b o ∷ []) Post)
           walk =
               qed W ((‵ (flft κ q) ⊛ toks) ∷ ‵ (owns (MutRef (named 0) κ Tr ∷ []) x at) ∷ []) ∵ split ! $ move ! (2 ∷ []) $ fsplit ! $ fsplit3 ! $ drop ! $ move ! (0 ∷ 1 ∷ 3 ∷ 4 ∷ []) $

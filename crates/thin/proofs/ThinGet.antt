@@ -1,8 +1,7 @@
--- A thin function over a struct that is lent by `&mut`, proved once for all of its form:
+-- A call over a lent target, proved once for every call of its form:
 --     pub fn f(t: &mut T, s: &[u8], x: X, w: &mut [u8]) -> Y { let r = core(*t, s, x, w); *t = r.target; r.answer }
--- core's contract is `P t (now (s .entry)) x (now (w .entry)) r (now (w .exit))`, for any P, and f's `P (now (t .entry)) (now (s .entry)) x (now (w .entry)) (record { target = now (t .exit); answer = r }) (now (w .exit))`.
---     own-meets       f's MIR meets f's contract, if core meets core's.        thin-get       the same of the function
--- Assumes `Given`.
+-- The call by value, core, promises `P t (now (s .entry)) x (now (w .entry)) r (now (w .exit))`, for any P, and f `P (now (t .entry)) (now (s .entry)) x (now (w .entry)) (record { target = now (t .exit); answer = r }) (now (w .exit))`.
+--     own-meets       f's MIR meets f's contract, if core meets core's. Assumes `Given`.        thin-get       the same of the function by its name, which a call's proof cites. Assumes nothing
 use mathlib.Core.Path.{_≡_, refl, sym, subst}
 use Prim.Native.Nat.{ℕ}
 use mathlib.Core.List.{[], _∷_, List}
@@ -43,10 +42,11 @@ use denote.Triple.Table.{entered, cited}
 use denote.Triple.Walked.{says, Stays, stay-ref, stay-dropped, gave-slice, walkOf, AllGo, goes-ref, goes-dropped, goes-gave-slice, Walks, ends-at, walked, walk-meets}
 use denote.Triple.Clauses.{Clauses, Ended, ensured, lasts, closing}
 use denote.Exit.{yes}
-use Rattle.thin.proofs.Forms.{still, keeps, Passed, Plain, Kind, Names, names}
+use Rattle.thin.proofs.Forms.{still, keeps, Passed, Plain, Done, TargetNames, target-names, DoneNames, done-names}
 
-module _ (K : Kind) (Z₁ : Plain) (P : K .N .D → List ℕ → Z₁ .row .Denot → List ℕ → K .D .Denot → List ℕ → Type 0) (#core : Name) where
-  open Names (names K) using (N, L, pl, Tr, τT, val, Y, τY, pY, D, τD)
+module _ (K : Done) (Z₁ : Plain) (P : K .T .N .D → List ℕ → Z₁ .row .Denot → List ℕ → K .D .Denot → List ℕ → Type 0) (#core : Name) where
+  open TargetNames (target-names (K .T)) using (N, L, pl, Tr, τT, val)
+  open DoneNames (done-names K) using (Y, τY, pY, D, τD)
 
   abbrev R₁ : RattleType
   R₁ = Z₁ .row
@@ -60,6 +60,7 @@ module _ (K : Kind) (Z₁ : Plain) (P : K .N .D → List ℕ → Z₁ .row .Deno
   abbrev pX₁ : Passed X₁ τX₁
   pX₁ = keeps (Z₁ .passed)
 
+  -- parameters and result of f and of core
   abbrev pub own-ended : Ended
   own-ended = record {
     signature = record { lifetimes = 3; outlives = []; params = mutRefTo (0 ∷ []) tt (plain (λ _. Tr)) ∷ shrSliceOf (1 ∷ []) tt (plain (λ _. u8)) ∷ plain (λ _. X₁) ∷ mutSliceOf (2 ∷ []) tt (plain (λ _. u8)) ∷ []; result = plain (λ _. Y) };
@@ -72,6 +73,7 @@ module _ (K : Kind) (Z₁ : Plain) (P : K .N .D → List ℕ → Z₁ .row .Deno
     kept = (yes, (yes, (yes, (yes, tt))));
   }
 
+  -- f's MIR
   abbrev pub function : Fn
   function = record {
     lifetimes = 3;
@@ -81,10 +83,12 @@ module _ (K : Kind) (Z₁ : Plain) (P : K .N .D → List ℕ → Z₁ .row .Deno
     body = seq (assign (place 6 []) (rvOpd (copy (place 1 (deref τT ∷ []))))) (seq (assign (place 7 []) (addrOf (place 4 (field 0 ∷ deref (tyInt w8) ∷ [])))) (seq (assign (place 8 []) (aggregate (copy (place 7 []) ∷ copy (place 4 (field 1 ∷ [])) ∷ []))) (seq (call #core (copy (place 6 []) ∷ copy (place 2 []) ∷ copy (place 3 []) ∷ copy (place 8 []) ∷ []) (place 5 [])) (seq (assign (place 1 (deref τT ∷ [])) (rvOpd (copy (place 5 (field 0 ∷ []))))) (seq (assign (place 0 []) (rvOpd (copy (place 5 (field 1 ∷ []))))) return)))));
   }
 
+  -- what becomes of each parameter
   abbrev stayed : Stays (own-ended .signature .params) (own-ended .kept)
   stayed = (stay-ref (0 ∷ []) tt (plain (λ _. Tr)), (stay-dropped (shrSliceOf (1 ∷ []) tt (plain (λ _. u8))) yes, (stay-dropped (plain (λ _. X₁)) yes, (gave-slice (2 ∷ []) tt (plain (λ _. u8)), tt))))
 
   module _ {M : Type 1} (𝓤 : URA M) (H : Heap 𝓤) (A : Atoms 𝓤) where
+    -- the two contracts
     abbrev pub own-clauses : Clauses 𝓤 own-ended
     own-clauses κs a = record { ghost = Unit {0}; requires = λ _. emp 𝓤; ensures = λ _ r e. fact 𝓤 (P (now (a .0)) (now (a .1 .0)) (a .1 .1 .0) (now (a .1 .1 .1 .0)) (K .make (now (e .0)) r) (now (e .1 .1 .1 .0))) }
 
@@ -123,15 +127,18 @@ module _ (K : Kind) (Z₁ : Plain) (P : K .N .D → List ℕ → Z₁ .row .Deno
         abbrev passed : In
         passed = (h, (x₁, (n₁, (x₂, tt))))
 
+        -- what core is handed
         abbrev to-core : Core .Ghost
         to-core = (((κ₁, (κ₂, tt)), (q₁, (q₂, tt)), tt, passed, (val h ∷ [], (s₁ ∷ [], (pX₁ .val n₁ ∷ [], (s₂ ∷ [], tt))))), tt)
 
         goes-core : Is Tr h (val h ∷ []) → ent 𝓤 (⋆ 𝓤 H A (‵ (ShrSlice (named 1) κ₁ u8 .own x₁ (s₁ ∷ [])) ∷ ‵ (MutSlice (named 2) κ₂ u8 .own x₂ (s₂ ∷ [])) ∷ toks ∷ [])) (Core .pre to-core)
         goes-core g = qed W (‵ (ShrSlice (named 1) κ₁ u8 .own x₁ (s₁ ∷ [])) ∷ ‵ (MutSlice (named 2) κ₂ u8 .own x₂ (s₂ ∷ [])) ∷ toks ∷ []) ∵ nothing ! $ move ! (2 ∷ 0 ∷ []) $ fjoin ! $ owned ! X₁ (Is X₁) (pX₁ .makes M 𝓤 H A W) n₁ _ is₁ $ fjoin ! $ move ! (1 ∷ 0 ∷ []) $ fjoin ! $ owned ! Tr (Is Tr) (LL.makes N pl 𝓤 H A) h _ g $ fjoin ! $ move ! (1 ∷ []) $ join ! $ frame ! $ done !
 
+        -- what core says of its result
         abbrev Said : D .Denot → List ℕ → Type 0
         Said r v₁ = P h (now x₁) n₁ (now x₂) r v₁
 
+        -- what is had at the end is what f's contract promises
         exits : (r : D .Denot) (v₁ : List ℕ) → Said r v₁ → length v₁ ≡ length (now x₂) → Is Y (K .answer r) (pY .val (K .answer r) ∷ []) → ent 𝓤 (⋆ 𝓤 H A (‵ (fobs γ (Tr .coded .code (K .target r))) ∷ ‵ (fbor κ (Body (mem Tr) b o γ)) ∷ ‵ (flft κ q) ∷ toks ∷ ‵ (finally u8 (name x₂) v₁) ∷ [])) (Post (pY .val (K .answer r)))
         exits r v₁ e m₁ y-is =
             qed W (‵ (fobs γ (Tr .coded .code (K .target r))) ∷ ‵ (fbor κ (Body (mem Tr) b o γ)) ∷ ‵ (flft κ q) ∷ toks ∷ ‵ (finally u8 (name x₂) v₁) ∷ []) ∵
@@ -140,6 +147,7 @@ module _ (K : Kind) (Z₁ : Plain) (P : K .N .D → List ℕ → Z₁ .row .Deno
             owned ! Y (Is Y) (pY .makes M 𝓤 H A W) (K .answer r) _ y-is $ move ! (1 ∷ 0 ∷ []) $ done !
 
         module _ (C : Calls 𝓤 H) (Λ : Loops 𝓤 H) (fm : FmC 𝓤 H (W .laws) C) (known : Triple 𝓤 (C #core) Core) where
+          -- f's MIR, statement by statement
           walk : ent 𝓤 (onEntry 𝓤 H A (own-ended .signature) (κ, (κ₁, (κ₂, tt))) (q, (q₁, (q₂, tt))) x at) (WpFn 𝓤 H C Λ function (vptr b o ∷ s₁ ∷ pX₁ .val n₁ ∷ s₂ ∷ []) Post)
           walk =
               qed W ((‵ (flft κ q) ⊛ toks) ∷ ‵ (owns (MutRef (named 0) κ Tr ∷ ShrSlice (named 1) κ₁ u8 ∷ X₁ ∷ MutSlice (named 2) κ₂ u8 ∷ []) x at) ∷ []) ∵ split ! $ move ! (2 ∷ []) $ fsplit ! $ fsplit3 ! $ drop ! $ move ! (2 ∷ []) $ fsplit ! $ move ! (1 ∷ []) $ fsplit ! $ drop ! $ fsplit ! $ move ! (3 ∷ 4 ∷ 5 ∷ 2 ∷ 0 ∷ 6 ∷ []) $

@@ -1,8 +1,7 @@
--- A thin function over a struct that is lent by `&mut`, proved once for all of its form:
+-- A call over a lent target, proved once for every call of its form:
 --     pub fn f(t: &mut T, x: X) -> Y { let r = core(*t, x); *t = r.target; r.answer }
--- core's contract is `P t x r`, for any P, and f's `P (now (t .entry)) x (record { target = now (t .exit); answer = r })`.
---     own-meets       f's MIR meets f's contract, if core meets core's.        thin-one       the same of the function
--- Assumes `Given`.
+-- The call by value, core, promises `P t x r`, for any P, and f `P (now (t .entry)) x (record { target = now (t .exit); answer = r })`.
+--     own-meets       f's MIR meets f's contract, if core meets core's. Assumes `Given`.        thin-one       the same of the function by its name, which a call's proof cites. Assumes nothing
 use mathlib.Core.Path.{_≡_, refl, sym, subst}
 use Prim.Native.Nat.{ℕ}
 use mathlib.Core.List.{[], _∷_, List}
@@ -40,10 +39,11 @@ use denote.Triple.Table.{entered, cited}
 use denote.Triple.Walked.{says, Stays, stay-ref, stay-dropped, walkOf, AllGo, goes-ref, goes-dropped, Walks, ends-at, walked, walk-meets}
 use denote.Triple.Clauses.{Clauses, Ended, ensured, lasts, closing}
 use denote.Exit.{yes}
-use Rattle.thin.proofs.Forms.{still, keeps, Passed, Plain, Kind, Names, names}
+use Rattle.thin.proofs.Forms.{still, keeps, Passed, Plain, Done, TargetNames, target-names, DoneNames, done-names}
 
-module _ (K : Kind) (Z₁ : Plain) (P : K .N .D → Z₁ .row .Denot → K .D .Denot → Type 0) (#core : Name) where
-  open Names (names K) using (N, L, pl, Tr, τT, val, Y, τY, pY, D, τD)
+module _ (K : Done) (Z₁ : Plain) (P : K .T .N .D → Z₁ .row .Denot → K .D .Denot → Type 0) (#core : Name) where
+  open TargetNames (target-names (K .T)) using (N, L, pl, Tr, τT, val)
+  open DoneNames (done-names K) using (Y, τY, pY, D, τD)
 
   abbrev R₁ : RattleType
   R₁ = Z₁ .row
@@ -57,6 +57,7 @@ module _ (K : Kind) (Z₁ : Plain) (P : K .N .D → Z₁ .row .Denot → K .D .D
   abbrev pX₁ : Passed X₁ τX₁
   pX₁ = keeps (Z₁ .passed)
 
+  -- parameters and result of f and of core
   abbrev pub own-ended : Ended
   own-ended = record {
     signature = record { lifetimes = 1; outlives = []; params = mutRefTo (0 ∷ []) tt (plain (λ _. Tr)) ∷ plain (λ _. X₁) ∷ []; result = plain (λ _. Y) };
@@ -69,6 +70,7 @@ module _ (K : Kind) (Z₁ : Plain) (P : K .N .D → Z₁ .row .Denot → K .D .D
     kept = (yes, (yes, tt));
   }
 
+  -- f's MIR
   abbrev pub function : Fn
   function = record {
     lifetimes = 1;
@@ -78,10 +80,12 @@ module _ (K : Kind) (Z₁ : Plain) (P : K .N .D → Z₁ .row .Denot → K .D .D
     body = seq (assign (place 4 []) (rvOpd (copy (place 1 (deref τT ∷ []))))) (seq (call #core (copy (place 4 []) ∷ copy (place 2 []) ∷ []) (place 3 [])) (seq (assign (place 1 (deref τT ∷ [])) (rvOpd (copy (place 3 (field 0 ∷ []))))) (seq (assign (place 0 []) (rvOpd (copy (place 3 (field 1 ∷ []))))) return)));
   }
 
+  -- what becomes of each parameter
   abbrev stayed : Stays (own-ended .signature .params) (own-ended .kept)
   stayed = (stay-ref (0 ∷ []) tt (plain (λ _. Tr)), (stay-dropped (plain (λ _. X₁)) yes, tt))
 
   module _ {M : Type 1} (𝓤 : URA M) (H : Heap 𝓤) (A : Atoms 𝓤) where
+    -- the two contracts
     abbrev pub own-clauses : Clauses 𝓤 own-ended
     own-clauses κs a = record { ghost = Unit {0}; requires = λ _. emp 𝓤; ensures = λ _ r e. fact 𝓤 (P (now (a .0)) (a .1 .0) (K .make (now (e .0)) r)) }
 
@@ -114,18 +118,21 @@ module _ (K : Kind) (Z₁ : Plain) (P : K .N .D → Z₁ .row .Denot → K .D .D
         abbrev passed : In
         passed = (h, (n₁, tt))
 
+        -- what core is handed
         abbrev to-core : Core .Ghost
         to-core = ((tt, tt, tt, passed, (val h ∷ [], (pX₁ .val n₁ ∷ [], tt))), tt)
 
         goes-core : Is Tr h (val h ∷ []) → ent 𝓤 (⋆ 𝓤 H A ([])) (Core .pre to-core)
         goes-core g = qed W ([]) ∵ nothing ! $ owned ! X₁ (Is X₁) (pX₁ .makes M 𝓤 H A W) n₁ _ is₁ $ fjoin ! $ owned ! Tr (Is Tr) (LL.makes N pl 𝓤 H A) h _ g $ fjoin ! $ nothing ! $ join ! $ frame ! $ done !
 
+        -- what core says of its result
         abbrev Said : D .Denot → Type 0
         Said r = P h n₁ r
 
         got-of : (r : D .Denot) → ent 𝓤 (ensured 𝓤 H A core-ended core-clauses tt passed tt r) (fact 𝓤 (Said r))
         got-of r = exE 𝓤 _ (λ ws. snd∗ 𝓤 (sem 𝓤 H A (lasts core-ended tt passed ws)) (fact 𝓤 (Said r)))
 
+        -- what is had at the end is what f's contract promises
         exits : (r : D .Denot) → Said r → Is Y (K .answer r) (pY .val (K .answer r) ∷ []) → ent 𝓤 (⋆ 𝓤 H A (‵ (fobs γ (Tr .coded .code (K .target r))) ∷ ‵ (fbor κ (Body (mem Tr) b o γ)) ∷ ‵ (flft κ q) ∷ toks ∷ [])) (Post (pY .val (K .answer r)))
         exits r e y-is =
             qed W (‵ (fobs γ (Tr .coded .code (K .target r))) ∷ ‵ (fbor κ (Body (mem Tr) b o γ)) ∷ ‵ (flft κ q) ∷ toks ∷ []) ∵
@@ -134,6 +141,7 @@ module _ (K : Kind) (Z₁ : Plain) (P : K .N .D → Z₁ .row .Denot → K .D .D
             owned ! Y (Is Y) (pY .makes M 𝓤 H A W) (K .answer r) _ y-is $ move ! (1 ∷ 0 ∷ []) $ done !
 
         module _ (C : Calls 𝓤 H) (Λ : Loops 𝓤 H) (fm : FmC 𝓤 H (W .laws) C) (known : Triple 𝓤 (C #core) Core) where
+          -- f's MIR, statement by statement
           walk : ent 𝓤 (onEntry 𝓤 H A (own-ended .signature) (κ, tt) (q, tt) x at) (WpFn 𝓤 H C Λ function (vptr b o ∷ pX₁ .val n₁ ∷ []) Post)
           walk =
               qed W ((‵ (flft κ q) ⊛ toks) ∷ ‵ (owns (MutRef (named 0) κ Tr ∷ X₁ ∷ []) x at) ∷ []) ∵ split ! $ move ! (2 ∷ []) $ fsplit ! $ fsplit3 ! $ drop ! $ move ! (0 ∷ 1 ∷ 3 ∷ 4 ∷ []) $
