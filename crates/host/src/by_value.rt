@@ -1,5 +1,6 @@
-// The calls over a lent target, by value again, for callers that hold a target as a value: each lends a copy of it to the call in
-// `lent` and hands back what is left of the copy. Its promise is the one of the call by value in `portals`, letter for letter.
+// The calls on a lent target, by value again. Code that the borrow checker covers cannot lend a struct, and calls these: each lends a
+// copy of the target to the call in `lent`, and hands back the copy as that call left it. The promise is the one of the call of its name
+// in `portals`, letter for letter.
 use crate::lent;
 use matching::layout::Entry;
 use matching::layout::Request;
@@ -19,11 +20,11 @@ use state::layout::Settings;
 use state::layout::Target;
 ghost use Rattle.portals.specs.Promises.{NewMet, AppendMet, UnlinkMet, SearchMet, PutMet, GetMet, ReadEventMet, SetCounterMet, IncrementMet, ReadCounterMet, ReadRegisterMet, ReadyMet, PollMet};
 
-// The target passed is only a place for the new one.
-pub fn new(t: Target, s: Settings) -> NewDone
+// `place` is only room for the new target.
+pub fn new(place: Target, s: Settings) -> NewDone
     ensures { λ r. ⌜ NewMet s r ⌝ }
 {
-    let mut u = t;
+    let mut u = place;
     let a = lent::new(&mut u, s);
     NewDone {
         target: u,

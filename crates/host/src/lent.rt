@@ -1,7 +1,8 @@
-// Document 01, "who lends it to each call": every call over a target that its owner keeps and lends. Each takes the target by
-// reference, hands its value to the call by value in `portals` and stores the state that comes back, which after a refusal is the
-// very same one. Its promise is that call's own record, of the target as it was lent and as it is left. A call that only reads is
-// lent the target to read.
+// Document 01: "The target's state stays with the caller, who lends it to each call." The calls on a lent target.
+//
+// A call that may change the state takes the target by `&mut`, calls the one of its name in `portals` and stores the state that comes
+// back, after a refusal the very same one (but see `new`). A call that only reads takes it by `&`. What a call does is said at that
+// call in `portals`: the promise here is its record, of the target as it was lent and as it is left.
 use matching::layout::Entry;
 use matching::layout::Request;
 use portals::answers::AppendAnswer;
@@ -29,12 +30,13 @@ use state::layout::Settings;
 use state::layout::Target;
 ghost use Rattle.portals.specs.Promises.{NewMet, AppendMet, UnlinkMet, SearchMet, PutMet, GetMet, ReadEventMet, SetCounterMet, IncrementMet, ReadCounterMet, ReadRegisterMet, ReadyMet, PollMet};
 
-// Makes a target in the place that is handed over, whatever was there before: beside a refusal too, one of size 0.
-pub fn new(t: &mut Target, s: Settings) -> NewAnswer
-    ensures { λ r. ⌜ NewMet s (record { target = now (t .exit); answer = r }) ⌝ }
+// Makes a target in a place that its caller lends. What the place held is not read, and is lost: beside a refusal too, where a target
+// of size 0 comes to stand there.
+pub fn new(place: &mut Target, s: Settings) -> NewAnswer
+    ensures { λ r. ⌜ NewMet s (record { target = now (place .exit); answer = r }) ⌝ }
 {
     let r = making::new(s);
-    *t = r.target;
+    *place = r.target;
     r.answer
 }
 
