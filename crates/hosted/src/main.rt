@@ -1,23 +1,23 @@
-// The program `hosted`: a list of calls, each made on two targets, one that is lent to the call and one that is handed over by value.
-// Both answers are printed, a line for each, so that every two lines are to say the same.
+// The program `hosted`: a list of calls with those that no script has, which are new, ready and poll. Each call is made on two targets,
+// on the one as a host makes it and on the other by value, and both answers are printed, a line for each: every two lines are to say
+// the same.
 pub mod calls;
 pub mod said;
 
 use crate::calls::Pair;
 use matching::layout::Entry;
 use matching::layout::Request;
-use state::layout::CounterChange;
 use state::layout::CounterTest;
 
-// An entry at portal 0 for match bits 5, of any initiator.
-fn entry(list: u8, counter: u8, options: u32, start: u32, length: u32) -> Entry {
+// An entry of the priority list at portal 0, for the puts of any initiator with match bits 5, which counts them in counter 3.
+fn entry() -> Entry {
     Entry {
         portal: 0,
-        list,
-        counter,
-        options,
-        start,
-        length,
+        list: 0,
+        counter: 3,
+        options: 4097,
+        start: 16,
+        length: 8,
         minfree: 0,
         uid: 4294967295,
         nid: 4294967295,
@@ -28,9 +28,9 @@ fn entry(list: u8, counter: u8, options: u32, start: u32, length: u32) -> Entry 
     }
 }
 
-fn request(portal: u16) -> Request {
+fn request() -> Request {
     Request {
-        portal,
+        portal: 0,
         ack: 1,
         nid: 1,
         pid: 2,
@@ -41,22 +41,31 @@ fn request(portal: u16) -> Request {
     }
 }
 
-// A message that no entry of the priority list takes: it waits in an overflow entry.
-fn arrived(p: Pair, lent: &mut [u8], value: &mut [u8]) -> Pair {
-    let p = calls::append(p, 2, entry(1, 255, 5, 0, 8));
-    calls::put(p, 3, request(0), b"abc", lent, value)
+// A target of 64 bytes with an entry. In its place a target is refused, and one of size 0 is there, which has no room for the entry.
+fn refused() -> Pair {
+    let p = calls::new(calls::none(), 0, 64);
+    let p = calls::append(p, 1, entry());
+    let p = calls::new(p, 2, 65537);
+    calls::append(p, 3, entry())
 }
 
-// It is found by a search, and taken by an append with USE_ONCE.
-fn taken(p: Pair) -> Pair {
-    let p = calls::search(p, 4, entry(0, 255, 1, 8, 4));
-    let p = calls::append(p, 5, entry(0, 255, 17, 8, 4));
-    calls::read_event(p, 6)
+// A new target again, on which handles begin with 1.
+fn made(p: Pair) -> Pair {
+    let p = calls::new(p, 4, 64);
+    calls::append(p, 5, entry())
 }
 
-// A message that an entry of the priority list takes and counts.
-fn counted(p: Pair, lent: &mut [u8], value: &mut [u8]) -> Pair {
-    let p = calls::append(p, 7, entry(0, 3, 4099, 16, 8));
+// A message, and whether the entry's counter is ready before and after it.
+fn counted(p: Pair, lent_memory: &mut [u8], value_memory: &mut [u8]) -> Pair {
+    calls::ready(
+        p,
+        6,
+        CounterTest {
+            counter: 3,
+            test: 1,
+        },
+    );
+    let p = calls::put(p, 7, request(), b"abcd", lent_memory, value_memory);
     calls::ready(
         p,
         8,
@@ -65,74 +74,32 @@ fn counted(p: Pair, lent: &mut [u8], value: &mut [u8]) -> Pair {
             test: 1,
         },
     );
-    calls::put(p, 9, request(0), b"defg", lent, value)
-}
-
-// Its counter is waited for, alone and among others.
-fn waited(p: Pair) {
-    calls::ready(
-        p,
-        10,
-        CounterTest {
-            counter: 3,
-            test: 1,
-        },
-    );
-    calls::poll(p, 11, &[2, 3], &[1, 1]);
-    calls::poll(p, 12, &[2], &[1]);
-    calls::poll(p, 13, &[2], &[]);
-}
-
-// A counter is incremented, and set.
-fn changed(p: Pair) -> Pair {
-    let change = CounterChange {
-        counter: 3,
-        success: 5,
-        failure: 1,
-    };
-    let p = calls::increment(p, 14, change);
-    calls::read_counter(p, 15, 3);
-    let p = calls::set_counter(p, 16, change);
-    calls::read_counter(p, 17, 3);
     p
 }
 
-// A message for a portal without entries, and the register that counts it; a get of what is in memory.
-fn dropped(p: Pair, lent: &mut [u8], value: &mut [u8]) -> Pair {
-    let p = calls::put(p, 18, request(5), b"h", lent, value);
-    calls::read_register(p, 19, 0);
-    calls::get(p, 20, request(0), lent, value)
+// Counters that are polled, and a counter and a list that are refused.
+fn polled(p: Pair) {
+    calls::poll(p, 9, &[2, 3], &[1, 1]);
+    calls::poll(p, 10, &[3, 2], &[2, 1]);
+    calls::poll(p, 11, &[2, 3], &[1]);
+    calls::ready(
+        p,
+        12,
+        CounterTest {
+            counter: 16,
+            test: 0,
+        },
+    );
 }
 
-// An entry is unlinked, once and no more.
-fn unlinked(p: Pair) {
-    let p = calls::unlink(p, 21, 2);
-    calls::unlink(p, 22, 2);
-}
-
-// A target that is refused, and one of 64 bytes.
-fn made() -> Pair {
-    let p = calls::none();
-    let p = calls::new(p, 0, 65537);
-    calls::new(p, 1, 64)
-}
-
-// The list: the first ten calls, ..
-fn begin(lent: &mut [u8], value: &mut [u8]) -> Pair {
-    let p = arrived(made(), lent, value);
-    counted(taken(p), lent, value)
-}
-
-// .. and the others. The two targets have a memory each.
-fn run(lent: &mut [u8], value: &mut [u8]) {
-    let p = begin(lent, value);
-    waited(p);
-    let p = dropped(changed(p), lent, value);
-    unlinked(p);
+// The list. The two targets have a memory each.
+fn run(lent_memory: &mut [u8], value_memory: &mut [u8]) {
+    let p = counted(made(refused()), lent_memory, value_memory);
+    polled(p);
 }
 
 fn main() {
-    let mut lent = [0u8; 64];
-    let mut value = [0u8; 64];
-    run(&mut lent, &mut value)
+    let mut lent_memory = [0u8; 64];
+    let mut value_memory = [0u8; 64];
+    run(&mut lent_memory, &mut value_memory)
 }

@@ -1,15 +1,11 @@
-// What each answer is printed as, behind the way in which the call was made: as a line of a printout, and for the calls that no script
-// has by their own words.
+// Prints an answer behind `lent` or `value`: as in a printout, and those of new, ready and poll, which no script has, as MADE, READY,
+// NOT_READY, REACHED and NONE_REACHED.
 use portals::answers::AppendAnswer;
-use portals::answers::CounterAnswer;
-use portals::answers::EventAnswer;
 use portals::answers::NewAnswer;
 use portals::answers::PlainAnswer;
 use portals::answers::PollAnswer;
 use portals::answers::ReadyAnswer;
-use portals::answers::RegisterAnswer;
 use portals::answers::RequestAnswer;
-use portals::answers::SearchAnswer;
 use printer::said;
 use text::decimals;
 use text::writing;
@@ -23,7 +19,7 @@ fn first(out: &[u8], n: usize) {
     }
 }
 
-// The way, and a line.
+// How the call was made, and its line.
 fn say(way: &[u8], out: &[u8; 400], n: usize) {
     io::write_all(1, way);
     first(out, n);
@@ -53,41 +49,9 @@ pub fn say_plain(way: &[u8], k: usize, a: PlainAnswer) {
     say(way, &out, n)
 }
 
-pub fn say_search(way: &[u8], k: usize, a: SearchAnswer) {
-    let mut out = [0u8; 400];
-    let n = said::search_said(&mut out, k, a);
-    say(way, &out, n)
-}
-
-pub fn say_event(way: &[u8], k: usize, a: EventAnswer) {
-    let mut out = [0u8; 400];
-    let n = said::event_said(&mut out, k, a);
-    say(way, &out, n)
-}
-
-pub fn say_counter(way: &[u8], k: usize, a: CounterAnswer) {
-    let mut out = [0u8; 400];
-    let n = said::counter_said(&mut out, k, a);
-    say(way, &out, n)
-}
-
-pub fn say_register(way: &[u8], k: usize, a: RegisterAnswer) {
-    let mut out = [0u8; 400];
-    let n = said::register_said(&mut out, k, a);
-    say(way, &out, n)
-}
-
 pub fn say_put(way: &[u8], k: usize, a: RequestAnswer) {
     let mut out = [0u8; 400];
     let n = said::request_said(&mut out, k, a);
-    say(way, &out, n)
-}
-
-// With the bytes of its reply.
-pub fn say_get(way: &[u8], k: usize, a: RequestAnswer, reply: &[u8; 4]) {
-    let mut out = [0u8; 400];
-    let m = said::request_said(&mut out, k, a);
-    let n = said::put_reply(&mut out, m, a, reply);
     say(way, &out, n)
 }
 
