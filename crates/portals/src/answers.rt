@@ -1,4 +1,5 @@
-// The answers of the calls: an enum for each; beside it, for a call that may change the state, the state that it leaves.
+// The answers of the calls: an enum for each; before it, for a call that may change the state, the state that it leaves. The laws of
+// calls on a lent target (`thin`) ask for the two in this order.
 use matching::refusals::Refusal;
 use state::layout::Counter;
 use state::layout::Event;

@@ -94,7 +94,7 @@ pub fn append(t: Target, e: Entry) -> AppendDone
     let answer = append_answer(a, taken, t.last);
     let how = append_handling(answer);
     AppendDone {
-        answer,
         target: handling::target_after(t, how, w, e),
+        answer,
     }
 }

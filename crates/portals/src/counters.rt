@@ -70,8 +70,8 @@ pub fn set_counter(t: Target, x: CounterChange) -> PlainDone
     let mut next = t;
     next.counters = counters::counter_put(t.counters, stores, x.counter, c);
     PlainDone {
-        answer: admission::answer_plain(a),
         target: next,
+        answer: admission::answer_plain(a),
     }
 }
 
@@ -87,8 +87,8 @@ pub fn increment(t: Target, x: CounterChange) -> PlainDone
     let mut next = t;
     next.counters = counters::counter_put(t.counters, stores, x.counter, c);
     PlainDone {
-        answer: admission::answer_plain(a),
         target: next,
+        answer: admission::answer_plain(a),
     }
 }
 

@@ -49,7 +49,7 @@ pub fn read_event(t: Target) -> EventDone
     let mut next = t;
     next.queue = event_queue::popped(q, takes);
     EventDone {
-        answer,
         target: next,
+        answer,
     }
 }

@@ -42,5 +42,5 @@ pub fn new(s: Settings) -> NewDone
     let answer = setting_answer(bad);
     let size = setting_size(s, bad);
     let target = empty::empty_target(size);
-    NewDone { answer, target }
+    NewDone { target, answer }
 }

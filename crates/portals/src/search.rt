@@ -51,7 +51,7 @@ pub fn search(t: Target, e: Entry) -> SearchDone
     let answer = search_answer(a, w.found.count);
     let how = search_handling(a, e.list);
     SearchDone {
-        answer,
         target: handling::target_after(t, how, w, e),
+        answer,
     }
 }

@@ -54,7 +54,7 @@ pub fn unlink(t: Target, handle: u32) -> PlainDone
     let mut next = t;
     next.entries = entries_unlinked(t.entries, unlinks, handle);
     PlainDone {
-        answer: admission::answer_plain(a),
         target: next,
+        answer: admission::answer_plain(a),
     }
 }
