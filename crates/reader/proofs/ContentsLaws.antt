@@ -6,8 +6,9 @@ use native.Mathlib.Numerals.{add-one}
 use native.Mathlib.Omega.{arith}
 use borrow.Author.Tests.{le-leb, lt-leb}
 use lib.ListN.{length}
-use Rattle.reader.specs.Contents.{CALLS, lineStart, lineRead, noLine, lineAt, bodyLengths}
+use Rattle.reader.specs.Contents.{CALLS, lineStart, lineRead, noLine, lineAt, nextPlace, readAt, bodyLengths}
 use Rattle.reader.specs.declared.contents.Line.{Line}
+use Rattle.reader.specs.declared.contents.LineRead.{LineRead}
 
 -- ## A line
 
@@ -31,6 +32,25 @@ module _ (s : List ℕ) (i : ℕ) where
   line-inside few inside =
       let long : lineStart (suc i) ≤ length s = omega arith in
       rw (le-leb _ _ few, le-leb _ _ long)
+
+-- ## The place behind a line
+
+place-beyond : (i : ℕ) → CALLS ≤ i → nextPlace i ≡ i
+unfolding nextPlace
+place-beyond i beyond =
+    let more : CALLS < suc i = omega arith in
+    rw (lt-leb _ _ more)
+
+pub place-next : (i : ℕ) → i < CALLS → nextPlace i ≡ i + 1
+unfolding nextPlace
+place-next i few = rw (le-leb _ _ few)
+
+module _ (s : List ℕ) (i : ℕ) (l : Line) (is : l ≡ lineAt s i) where
+  pub read-beyond : CALLS ≤ i → _≡_ {A = LineRead} (record { line = l; next = i }) (readAt s i)
+  read-beyond beyond = rw (is, place-beyond i beyond)
+
+  pub read-inside : i < CALLS → _≡_ {A = LineRead} (record { line = l; next = i + 1 }) (readAt s i)
+  read-inside few = rw (is, place-next i few)
 
 -- ## The sum of the body lengths of so many lines
 

@@ -9,7 +9,7 @@ use borrow.Author.Tests.{leb-true, leb-false, eqb-true, le-leb, lt-leb, eq-eqb, 
 use lib.Dec.{leb, eqb}
 use lib.ListN.{length}
 use Rattle.state.proofs.ListLaws.{both}
-use Rattle.reader.specs.Contents.{HEAD, CALLS, headOf, lineAt, bodyLengths}
+use Rattle.reader.specs.Contents.{HEAD, CALLS, headOf, noLine, lineAt, nextPlace, bodyLengths}
 use Rattle.reader.specs.Calls.{callKind, lengthAt}
 use Rattle.reader.specs.Judging.{FILE, SCRIPT-MEMORY, goodFields, bodiesStart, goodSize, goodHead, knownKind, goodBody, wellFormed, goodLine, firstBadCall, verdictOf}
 use Rattle.reader.specs.declared.contents.Head.{Head}
@@ -18,6 +18,7 @@ use Rattle.reader.specs.declared.calls.CallKind.{CallKind}
 use Rattle.reader.specs.declared.calls.CallKind.the-variants as CallKind
 use Rattle.reader.specs.declared.judging.Verdict.{Verdict}
 use Rattle.reader.specs.declared.judging.Verdict.the-variants as Verdict
+use Rattle.reader.proofs.ContentsLaws.{line-beyond, place-next}
 use Rattle.reader.proofs.CallLaws.{body-inside, body-good, long-enough, get-short}
 
 -- ## The head
@@ -108,6 +109,23 @@ module _ (s : List ℕ) (l : Line) where
   pub by-body : knownKind (l .kind) ≡ true → l .reserved ≡ 0 → l .place + l .length ≤ length s → wellFormed s l ≡ goodBody (callKind (l .kind)) s l
   unfolding wellFormed
   by-body known zeros inside = rw (known, eq-eqb _ _ zeros, le-leb _ _ inside)
+
+-- a line that is well formed is one that a file can have
+formed-within : (s : List ℕ) (i : ℕ) → wellFormed s (lineAt s i) ≡ true → i < CALLS
+formed-within s i formed = by (leb (suc i) CALLS) refl
+  where
+    by : (t : Bool) → leb (suc i) CALLS ≡ t → i < CALLS
+    by true e = leb-true (suc i) CALLS e
+    by false e =
+        let more = leb-false (suc i) CALLS e in
+        let none : lineAt s i ≡ noLine = line-beyond s i (omega arith) in
+        let bad : wellFormed s (lineAt s i) ≡ false = rw none (kind-unknown s noLine refl) in
+        let z : _≡_ {A = ℕ} 0 1 = cc in
+        absurd (omega arith)
+
+-- so the place behind it is the next one
+pub formed-next : (s : List ℕ) (i : ℕ) → wellFormed s (lineAt s i) ≡ true → nextPlace i ≡ i + 1
+formed-next s i formed = place-next i (formed-within s i formed)
 
 -- the body of a good line ends in the file
 pub line-ends : (s : List ℕ) (at : ℕ) (l : Line) → goodLine s at l ≡ true → at + l .length ≤ length s

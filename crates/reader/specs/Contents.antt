@@ -7,6 +7,7 @@ use lib.ListN.{length}
 use Rattle.reader.specs.Numbers.{numberAt, byteAt}
 use Rattle.reader.specs.declared.contents.Head.{Head}
 use Rattle.reader.specs.declared.contents.Line.{Line}
+use Rattle.reader.specs.declared.contents.LineRead.{LineRead}
 
 -- the head's length in bytes
 abbrev pub HEAD : ℕ
@@ -36,6 +37,14 @@ noLine = record { kind = 0; reserved = 0; length = 0; place = 0 }
 -- line i: none beyond the calls that a file can have, and beyond the file's end
 unfoldable pub lineAt : List ℕ → ℕ → Line
 lineAt s i = cond (leb (suc i) CALLS && leb (lineStart (suc i)) (length s)) (lineRead s (lineStart i)) noLine
+
+-- the place behind place i: the next one, as long as a file can have a line at place i
+unfoldable pub nextPlace : ℕ → ℕ
+nextPlace i = cond (leb (suc i) CALLS) (i + 1) i
+
+-- line i, and the place behind it
+abbrev pub readAt : List ℕ → ℕ → LineRead
+readAt s i = record { line = lineAt s i; next = nextPlace i }
 
 -- the sum of the body lengths of m lines, from line i on
 unfoldable pub bodyLengths : List ℕ → ℕ → ℕ → ℕ

@@ -3,7 +3,7 @@ use crate::numbers;
 ghost use mathlib.Core.Path.{_≡_};
 ghost use Prim.Native.Nat.{_+_, _*_, _≤_};
 ghost use lib.ListN.{length};
-ghost use Rattle.reader.specs.Contents.{HEAD, CALLS, headOf, noLine, lineAt, bodyLengths};
+ghost use Rattle.reader.specs.Contents.{HEAD, CALLS, headOf, noLine, lineAt, readAt, bodyLengths};
 
 pub struct Head {
     // How many calls.
@@ -23,6 +23,12 @@ pub struct Line {
     pub length: u16,
     // Where the body begins in the file.
     pub place: u32,
+}
+
+// A line that was read, and the place behind it.
+pub struct LineRead {
+    pub line: Line,
+    pub next: usize,
 }
 
 pub const HEAD: usize = 8;
@@ -69,6 +75,17 @@ fn no_line() -> Line
         length: 0,
         place: 0,
     }
+}
+
+// Reads line i of the contents. The place behind it is the next one, as long as a file can have a line there.
+pub fn read_at(s: &[u8], i: usize) -> LineRead
+    ensures { λ r. ⌜ r ≡ readAt (now (s .entry)) i ⌝ }
+{
+    let line = line_at(s, i);
+    if CALLS <= i {
+        return LineRead { line, next: i };
+    }
+    LineRead { line, next: i + 1 }
 }
 
 // All body lengths that the first lines of the contents say.

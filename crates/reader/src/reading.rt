@@ -1,8 +1,8 @@
 // Document 01, "Script and printout": "The reader keeps the file and its own place."
 use crate::contents;
-use crate::contents::Line;
+use crate::contents::LineRead;
 ghost use mathlib.Core.Path.{_≡_};
-ghost use Rattle.reader.specs.Contents.{lineAt};
+ghost use Rattle.reader.specs.Contents.{readAt};
 
 // The script and the next line of its contents.
 pub struct Reader<'a> {
@@ -27,16 +27,16 @@ pub fn moved<'a>(r: Reader<'a>, next: usize) -> Reader<'a>
     }
 }
 
-// The line that it is at.
-pub fn current<'a>(r: Reader<'a>) -> Line
-    ensures { λ l. ⌜ l ≡ lineAt (now (r .entry .script)) (r .entry .next) ⌝ }
+// The line that it is at, and the place behind it.
+pub fn current<'a>(r: Reader<'a>) -> LineRead
+    ensures { λ l. ⌜ l ≡ readAt (now (r .entry .script)) (r .entry .next) ⌝ }
 {
-    contents::line_at(r.script, r.next)
+    contents::read_at(r.script, r.next)
 }
 
-// Line i of a script, by way of a reader. Whoever calls this needs no walk.
-pub fn line_of(script: &[u8], i: usize) -> Line
-    ensures { λ l. ⌜ l ≡ lineAt (now (script .entry)) i ⌝ }
+// Reads the line at a place, by way of a reader that is opened on the script and moved there. Whoever calls this needs no proof by hand.
+pub fn line_from(script: &[u8], place: usize) -> LineRead
+    ensures { λ l. ⌜ l ≡ readAt (now (script .entry)) place ⌝ }
 {
-    current(moved(opened(script), i))
+    current(moved(opened(script), place))
 }

@@ -28,7 +28,7 @@ use Rattle.reader.proofs.JudgingLaws.{good-head}
 use Rattle.script.specs.Printout.{callAt, linesFrom, printoutBy, printoutOf}
 use Rattle.script.specs.Log.{logged, logFrom, logOf}
 use Rattle.script.specs.Promises.{LINE, LineRan, Next, RunOf, Replayed}
-use Rattle.script.specs.declared.run.Stepped.{Stepped}
+use Rattle.script.specs.declared.run.LineStepped.{LineStepped}
 use Rattle.script.specs.declared.replay.Report.{Report}
 
 -- ## What is left of a list
@@ -144,7 +144,7 @@ going-begins s head begun made memory is good none met zeros =
 
 module _
     (s : List ℕ) (count k : ℕ) (done : Report) (t : Target) (memory : List ℕ) (g : Going s count k done t memory)
-    (r : Stepped) (memory′ out′ : List ℕ) (more : k < count)
+    (r : LineStepped) (memory′ out′ : List ℕ) (more : k < count)
     (ran : LineRan (callAt s k) t memory k r memory′ out′) where
   line : List ℕ
   line = take (r .length) out′
@@ -178,9 +178,9 @@ module _
       (done′ : Report)
       → length (take (r .length) out′) ≡ r .length
       → done′ .bytes ≡ done .bytes + length (take (r .length) out′)
-      → Going s count (k + 1) done′ (r .target) memory′
+      → Going s count (r .next) done′ (r .target) memory′
   unfolding line rest
-  going-on done′ e d = record {
+  going-on done′ e d = rw (ran .next) (record {
     counted = g .counted;
     few = g .few;
     within = omega arith;
@@ -194,7 +194,7 @@ module _
           g .run .whole t′ end
           (subst (λ (log : List runs.Line). runs.Ran t memory log t′ end) (sym first-logged) (runs.next (ran .step) later));
     };
-  }
+  })
 
 -- no call is left, and nothing of the printout
 pub going-ends :

@@ -19,15 +19,16 @@ use Rattle.conservation.specs.Runs as runs
 use Rattle.text.specs.Text.{bytesOf}
 use Rattle.text.specs.Writing.{Wrote}
 use Rattle.text.proofs.WritingLaws.{and-then, shorter, text-of}
-use Rattle.reader.specs.Contents.{lineAt}
+use Rattle.reader.specs.Contents.{lineAt, readAt}
 use Rattle.reader.specs.Calls.{callKind, callOf}
 use Rattle.reader.specs.Judging.{SCRIPT-MEMORY, wellFormed}
 use Rattle.reader.specs.declared.contents.Line.{Line}
+use Rattle.reader.specs.declared.contents.LineRead.{LineRead}
 use Rattle.reader.specs.declared.calls.Call as script
 use Rattle.reader.specs.declared.calls.Call.the-variants as Script
 use Rattle.reader.specs.declared.calls.CallKind.{CallKind}
 use Rattle.reader.specs.declared.calls.CallKind.the-variants as CallKind
-use Rattle.reader.proofs.JudgingLaws.{good-put, good-get}
+use Rattle.reader.proofs.JudgingLaws.{formed-next, good-put, good-get}
 use Rattle.printer.specs.Said.{SAID, said, shownOf}
 use Rattle.script.specs.Run.{asked, Called, called}
 use Rattle.script.specs.Printout.{callBy, callAt, lineOf}
@@ -189,16 +190,17 @@ known-ran s l call known t m k out r m′ out′ is e p =
 
 -- ## The line
 
--- with the newline behind it, the buffer begins with the whole line
+-- with the newline behind it, the buffer begins with the whole line; the next place is one further
 pub line-ran :
-    (s : List ℕ) (l : Line) (t : Target) (m : List ℕ) (k : ℕ) (out between : List ℕ) (r : Stepped) (n : ℕ) (m′ out′ : List ℕ)
-    → l ≡ lineAt s k
-    → CallRan (callBy s l) t m k out r m′ between
+    (s : List ℕ) (l : LineRead) (t : Target) (m : List ℕ) (k : ℕ) (out between : List ℕ) (r : Stepped) (n : ℕ) (m′ out′ : List ℕ)
+    → wellFormed s (lineAt s k) ≡ true
+    → l ≡ readAt s k
+    → CallRan (callBy s (l .line)) t m k out r m′ between
     → Wrote between (r .length) (bytesOf "\n") 1 out′ n
-    → LineRan (callAt s k) t m k (record { target = r .target; length = n }) m′ out′
+    → LineRan (callAt s k) t m k (record { target = r .target; length = n; next = l .next }) m′ out′
 unfolding lineOf
-line-ran s l t m k out between r n m′ out′ is p w =
-    let q = subst (λ (x : Line). CallRan (callBy s x) t m k out r m′ between) is p in
+line-ran s l t m k out between r n m′ out′ good is p w =
+    let q = subst (λ (x : LineRead). CallRan (callBy s (x .line)) t m k out r m′ between) is p in
     let line = and-then (q .line) w in
     record {
       step = q .step;
@@ -206,4 +208,5 @@ line-ran s l t m k out between r n m′ out′ is p w =
       memory = q .memory;
       line = line .front;
       short = omega (arith, line .next, line .short);
+      next = ap (λ (x : LineRead). x .next) is ∙ formed-next s k good;
     }

@@ -19,6 +19,7 @@ use Rattle.script.specs.Run.{called}
 use Rattle.script.specs.Printout.{lineOf, printoutOf}
 use Rattle.script.specs.Log.{logged, logOf}
 use Rattle.script.specs.declared.run.Stepped.{Stepped}
+use Rattle.script.specs.declared.run.LineStepped.{LineStepped}
 use Rattle.script.specs.declared.replay.Report.{Report}
 
 -- ## Sizes
@@ -50,13 +51,14 @@ pub record CallRan (c : Call) (t : Target) (m : List ℕ) (k : ℕ) (out : List 
 pub record RanOn (c : Call) (t : Target) (k : ℕ) (out : List ℕ) (r : Stepped) (out′ : List ℕ) : Type 0 where
   pub on : (m : List ℕ) → CallRan c t m k out r m out′
 
--- a call with its whole line: the first bytes of the buffer are that line and nothing else
-pub record LineRan (c : Call) (t : Target) (m : List ℕ) (k : ℕ) (r : Stepped) (m′ out′ : List ℕ) : Type 0 where
+-- a call with its whole line: the first bytes of the buffer are that line and nothing else; the place of the next line is one further
+pub record LineRan (c : Call) (t : Target) (m : List ℕ) (k : ℕ) (r : LineStepped) (m′ out′ : List ℕ) : Type 0 where
   pub step : runs.Stepped t m (logged c (seen t) m) (r .target) m′
   pub state : seen (r .target) ≡ called c (seen t) m .state
   pub memory : m′ ≡ called c (seen t) m .memory
   pub line : take (r .length) out′ ≡ lineOf k (called c (seen t) m)
   pub short : r .length ≤ LINE
+  pub next : r .next ≡ k + 1
 
 -- ## The printout
 

@@ -89,7 +89,8 @@ fn run_lines(script: &[u8], begun: Report, memory: &mut [u8], out: &mut [u8]) ->
         t = target;
         let n = s.length;
         done = write_next(script, done, &out[..n]);
-        k += 1;
+        let next = s.next;
+        k = next;
     }
     done
 }

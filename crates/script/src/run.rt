@@ -26,6 +26,13 @@ pub struct Stepped {
     pub length: usize,
 }
 
+// What a line leaves: the state, how many bytes of it are in the buffer, and the place of the next line, as the reader says.
+pub struct LineStepped {
+    pub target: Target,
+    pub length: usize,
+    pub next: usize,
+}
+
 fn run_append(t: Target, e: Entry, k: usize, out: &mut [u8]) -> Stepped
     requires { ⌜ TEXT ≤ length (now out) ⌝ }
     ensures { λ r. ⌜ RanOn (Calls.append e) t k (now (out .entry)) r (now (out .exit)) ⌝ }
@@ -197,13 +204,19 @@ pub(crate) fn run_line(
     script: &[u8],
     k: usize,
     out: &mut [u8],
-) -> Stepped
+) -> LineStepped
     requires { ⌜ (wellFormed (now script) (lineAt (now script) k) ≡ true) × (LINE ≤ length (now out)) ⌝ }
     ensures { λ r. ⌜ LineRan (callAt (now (script .entry)) k) t (now (memory .entry)) k r (now (memory .exit)) (now (out .exit)) ⌝ }
 {
-    let l = reading::line_of(script, k);
+    let read = reading::line_from(script, k);
+    let l = read.line;
     let s = run_call(t, memory, script, l, k, out);
     let length = writing::put_byte(out, s.length, b'\n');
     let target = s.target;
-    Stepped { target, length }
+    let next = read.next;
+    LineStepped {
+        target,
+        length,
+        next,
+    }
 }

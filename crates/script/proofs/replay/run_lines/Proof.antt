@@ -76,9 +76,6 @@ write-next-requires c κs =
     going-next (i .args .script .now) _ (l .k) (l .done) (l .t) (l .memory) (l .inv .1 .1) (step .result) _ _
     (ran .before .before .before .loop-test .taken) (step .ensures) fits
 
-add-k : tie.Need-add-k Inv-loop μ-loop
-add-k c = search needs
-
 loop-less : tie.Need-loop-less Inv-loop μ-loop
 loop-less c =
     let more = c .before .before .before .before .before .before .before .before .before .before .loop-test .taken in
@@ -124,7 +121,6 @@ run-lines-spec =
     slice-reshare-prefix-write-next
     slice-aggregate-write-next
     write-next-requires
-    add-k
     loop-less
     loop-again
     same-length

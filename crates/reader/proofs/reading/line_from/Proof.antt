@@ -1,4 +1,4 @@
--- `reader::reading::line_of` meets its contract: a walk of its MIR, by hand. The reader that `opened` returns is held in a local and passed to `moved`, and that of `moved` to `current`. All that the proof knows of the three is that each meets its contract.
+-- `reader::reading::line_from` meets its contract: a walk of its MIR, by hand. The reader that `opened` returns is held in a local and passed to `moved`, and that of `moved` to `current`. All that the proof knows of the three is that each meets its contract.
 -- The machine value of a reader is stored and passed on as it is. In a local of a body MIR erases the lifetime of the struct's type, so the value is shown to have the type at `erased`: what the struct owns does not say the lifetime's name.
 -- Assumes nothing.
 use mathlib.Core.Path.{_≡_, refl, ap, _∙_}
@@ -37,13 +37,13 @@ use denote.Triple.Table.{entered, cited}
 use denote.Triple.Walked.{says, Stays, stay-dropped, walkOf, goes-dropped, Walks, ends-at, walked, walk-meets}
 use denote.Exit.{yes}
 use denote.Triple.Clauses.{ensured, lasts}
-use Rattle.reader.specs.Contents.{lineAt}
-use Rattle.reader.specs.declared.contents.Line.{Line}
+use Rattle.reader.specs.Contents.{readAt}
+use Rattle.reader.specs.declared.contents.LineRead.{LineRead}
 use Rattle.reader.specs.declared.reading.Reader.{Reader}
 use Rattle.reader.proofs.reading.Reader as T
 use Rattle.reader.proofs.reading.Reader.Laws as T′
-use Rattle.reader.proofs.contents.Line as Y
-use Rattle.reader.proofs.contents.Line.Laws as Y′
+use Rattle.reader.proofs.contents.LineRead as Y
+use Rattle.reader.proofs.contents.LineRead.Laws as Y′
 use Rattle.reader.proofs.reading.opened as opened
 use Rattle.reader.proofs.reading.opened.Symbol as opened-def
 use Rattle.reader.proofs.reading.opened.Symbol.{name as #reader·reading·opened}
@@ -56,17 +56,17 @@ use Rattle.reader.proofs.reading.current as current
 use Rattle.reader.proofs.reading.current.Symbol as current-def
 use Rattle.reader.proofs.reading.current.Symbol.{name as #reader·reading·current}
 use Rattle.reader.proofs.reading.current.Met as current-thm
-use Rattle.reader.proofs.reading.line_of.Key.{name as #reader·reading·line-of}
-use Rattle.reader.proofs.reading.line_of as line-of
-use Rattle.reader.proofs.reading.line_of.Statement as stated
-use Rattle.reader.proofs.reading.line_of.Code as code
+use Rattle.reader.proofs.reading.line_from.Key.{name as #reader·reading·line-from}
+use Rattle.reader.proofs.reading.line_from as line-from
+use Rattle.reader.proofs.reading.line_from.Statement as stated
+use Rattle.reader.proofs.reading.line_from.Code as code
 
 -- the struct's type, over the signature's lifetimes
 abbrev B : Lfts 1 → RattleType
 B κs = T.the-row (namedLft 1 0 tt κs)
 
 -- what the parameters own is not kept for the exit
-abbrev stayed : Stays (line-of.ended .signature .params) (line-of.ended .kept)
+abbrev stayed : Stays (line-from.ended .signature .params) (line-from.ended .kept)
 stayed = (stay-dropped (shrSliceOf (0 ∷ []) tt (plain (λ _. u8))) yes, (stay-dropped (plain (λ _. usize)) yes, tt))
 
 module _ {M : Type 1} (𝓤 : URA M) (H : Heap 𝓤) (A : Atoms 𝓤) (mem : Memory → SProp 𝓤) (run : Routine → Fun 𝓤) where
@@ -85,18 +85,18 @@ module _ {M : Type 1} (𝓤 : URA M) (H : Heap 𝓤) (A : Atoms 𝓤) (W : Given
   abbrev v : Val
   v = sliceVal (s .ptr) (length (s .now))
 
-  abbrev found : Line
-  found = lineAt (now s) n
+  abbrev found : LineRead
+  found = readAt (now s) n
 
   -- the struct's type as a local of a body has it
   abbrev αᵉ : NamedLft
   αᵉ = record { mir = erased; lft = κ }
 
-  abbrev at : Vals line-of.signature (κ, tt)
+  abbrev at : Vals line-from.signature (κ, tt)
   at = (v ∷ [], (vint w64 n ∷ [], tt))
 
   abbrev Post : Val → SProp 𝓤
-  Post = walkOf 𝓤 H A line-of.ended stayed (line-of.clauses 𝓤 H A mem run) .post (((κ, tt), (q, tt), tt, (s, (n, tt)), at), tt)
+  Post = walkOf 𝓤 H A line-from.ended stayed (line-from.clauses 𝓤 H A mem run) .post (((κ, tt), (q, tt), tt, (s, (n, tt)), at), tt)
 
   -- the call of `opened`: what it is passed, what it asks, and what is known of its result
   abbrev to-opened : Opened 𝓤 H A mem run .Ghost
@@ -133,24 +133,24 @@ module _ {M : Type 1} (𝓤 : URA M) (H : Heap 𝓤) (A : Atoms 𝓤) (W : Given
   goes-current : (r : Reader) (u : Val) → ent 𝓤 (⋆ 𝓤 H A (‵ (B (κ, tt) .own r (u ∷ [])) ∷ (‵ (flft κ q) ⊛ ‵ ftrue) ∷ [])) (Current 𝓤 H A mem run .pre (to-current r u))
   goes-current r u = qed W (‵ (B (κ, tt) .own r (u ∷ [])) ∷ (‵ (flft κ q) ⊛ ‵ ftrue) ∷ []) ∵ nothing ! $ move ! (1 ∷ 0 ∷ []) $ fjoin ! $ move ! (1 ∷ 0 ∷ []) $ join ! $ frame ! $ done !
 
-  abbrev CurrentSays : Reader → Line → Type 0
-  CurrentSays r l = l ≡ lineAt (now (r .script)) (r .next)
+  abbrev CurrentSays : Reader → LineRead → Type 0
+  CurrentSays r l = l ≡ readAt (now (r .script)) (r .next)
 
-  current-said : (r : Reader) (l : Line) → ent 𝓤 (ensured 𝓤 H A current.ended (current.clauses 𝓤 H A mem run) (κ, tt) (r, tt) tt l) (fact 𝓤 (CurrentSays r l))
+  current-said : (r : Reader) (l : LineRead) → ent 𝓤 (ensured 𝓤 H A current.ended (current.clauses 𝓤 H A mem run) (κ, tt) (r, tt) tt l) (fact 𝓤 (CurrentSays r l))
   current-said r l = exE 𝓤 _ (λ ws. snd∗ 𝓤 (sem 𝓤 H A (lasts current.ended (κ, tt) (r, tt) ws)) (fact 𝓤 (CurrentSays r l)))
 
   -- what the three say together
-  is-found : (r r′ : Reader) (l : Line) → OpenedSays r → MovedSays r r′ → CurrentSays r′ l → l ≡ found
-  is-found r r′ l e e′ e″ = e″ ∙ (ap (λ (x : RefT (List ℕ)). lineAt (now x) (r′ .next)) (e′ .0 ∙ e .0) ∙ ap (lineAt (now s)) (e′ .1))
+  is-found : (r r′ : Reader) (l : LineRead) → OpenedSays r → MovedSays r r′ → CurrentSays r′ l → l ≡ found
+  is-found r r′ l e e′ e″ = e″ ∙ (ap (λ (x : RefT (List ℕ)). readAt (now x) (r′ .next)) (e′ .0 ∙ e .0) ∙ ap (readAt (now s)) (e′ .1))
 
-  exits : (l : Line) (u : Val) → l ≡ found → ent 𝓤 (⋆ 𝓤 H A (‵ (Y.the-row .own l (u ∷ [])) ∷ (‵ (flft κ q) ⊛ ‵ ftrue) ∷ [])) (Post u)
+  exits : (l : LineRead) (u : Val) → l ≡ found → ent 𝓤 (⋆ 𝓤 H A (‵ (Y.the-row .own l (u ∷ [])) ∷ (‵ (flft κ q) ⊛ ‵ ftrue) ∷ [])) (Post u)
   exits l u e =
       qed W (‵ (Y.the-row .own l (u ∷ [])) ∷ (‵ (flft κ q) ⊛ ‵ ftrue) ∷ []) ∵
-      suffices ! _ (ends-at 𝓤 H A line-of.ended stayed (line-of.clauses 𝓤 H A mem run) W (((κ, tt), (q, tt), tt, (s, (n, tt)), at), tt) u l (tt, (tt, tt)) (tt, (tt, tt))) $ says ! e $
+      suffices ! _ (ends-at 𝓤 H A line-from.ended stayed (line-from.clauses 𝓤 H A mem run) W (((κ, tt), (q, tt), tt, (s, (n, tt)), at), tt) u l (tt, (tt, tt)) (tt, (tt, tt))) $ says ! e $
       move ! (1 ∷ []) $ frame ! $ nothing ! $ nothing ! $ fjoin ! $ nothing ! $ fjoin ! $ frame ! $ done !
 
   module _ (C : Calls 𝓤 H) (Λ : Loops 𝓤 H) (fm : FmC 𝓤 H (W .laws) C) (known-opened : Triple 𝓤 (C #reader·reading·opened) (Opened 𝓤 H A mem run)) (known-moved : Triple 𝓤 (C #reader·reading·moved) (Moved 𝓤 H A mem run)) (known-current : Triple 𝓤 (C #reader·reading·current) (Current 𝓤 H A mem run)) where
-    walk : Is (ShrSlice (named 0) κ u8) s (v ∷ []) → ent 𝓤 (onEntry 𝓤 H A line-of.signature (κ, tt) (q, tt) (s, (n, tt)) at) (WpFn 𝓤 H C Λ code.function (v ∷ vint w64 n ∷ []) Post)
+    walk : Is (ShrSlice (named 0) κ u8) s (v ∷ []) → ent 𝓤 (onEntry 𝓤 H A line-from.signature (κ, tt) (q, tt) (s, (n, tt)) at) (WpFn 𝓤 H C Λ code.function (v ∷ vint w64 n ∷ []) Post)
     walk p =
         qed W ((‵ (flft κ q) ⊛ ‵ ftrue) ∷ ‵ (owns (ShrSlice (named 0) κ u8 ∷ usize ∷ []) (s, (n, tt)) at) ∷ []) ∵ move ! (1 ∷ []) $ fsplit ! $ move ! (1 ∷ []) $ drop ! $
         enter ! C Λ code.function (v ∷ vint w64 n ∷ []) _ $
@@ -173,7 +173,7 @@ module _ {M : Type 1} (𝓤 : URA M) (H : Heap 𝓤) (A : Atoms 𝓤) (W : Given
         land ! (from ! (stop !)) (init ! 4 refl (LL.lawful (T.the-type αᵉ) (T′.the-laws αᵉ) 𝓤 H A W .typed r′ _ is′ .0)) $
         use2 W (raw (Current 𝓤 H A mem run .pre (to-current r′ u′))) (goes-current r′ u′) $
         calls-at ! fm (Current 𝓤 H A mem run) known-current (to-current r′ u′) (and-then ! (load ! (from ! (stop !)) (look ! 3 refl)) (no-more !)) (λ u″.
-        use1 W (later (some (λ (l : Line). ((‵ (flft κ q) ⊛ ‵ ftrue) ⊛ ‵ (Y.the-row .own l (u″ ∷ []))) ⊛ raw (ensured 𝓤 H A current.ended (current.clauses 𝓤 H A mem run) (κ, tt) (r′, tt) tt l)))) (id⊢ 𝓤 _) $ await ! tt $ pick ! (λ l.
+        use1 W (later (some (λ (l : LineRead). ((‵ (flft κ q) ⊛ ‵ ftrue) ⊛ ‵ (Y.the-row .own l (u″ ∷ []))) ⊛ raw (ensured 𝓤 H A current.ended (current.clauses 𝓤 H A mem run) (κ, tt) (r′, tt) tt l)))) (id⊢ 𝓤 _) $ await ! tt $ pick ! (λ l.
         split ! $ move ! (1 ∷ []) $ use1 W (raw (fact 𝓤 (CurrentSays r′ l))) (current-said r′ l) $ heard ! (CurrentSays r′ l) (λ e″. split ! $ move ! (1 ∷ []) $
         -- [the result; the token; _4; …; _3; …; _2; …; _1; …; room for _0; …]
         peeks ! Y.the-row (Is Y.the-row) (shows 𝓤 H A Y.the-row) l (u″ ∷ []) (λ is″.
@@ -183,24 +183,24 @@ module _ {M : Type 1} (𝓤 : URA M) (H : Heap 𝓤) (A : Atoms 𝓤) (W : Given
         by ! (exits l u″ (is-found r r′ l e e′ e″)))))))))))))))))))
 
 module _ {M : Type 1} (𝓤 : URA M) (H : Heap 𝓤) (A : Atoms 𝓤) (W : Given 𝓤 H A) (mem : Memory → SProp 𝓤) (run : Routine → Fun 𝓤) where
-  line-of-walks : (C : Calls 𝓤 H) (Λ : Loops 𝓤 H) → FmC 𝓤 H (W .laws) C → Triple 𝓤 (C #reader·reading·opened) (Opened 𝓤 H A mem run) → Triple 𝓤 (C #reader·reading·moved) (Moved 𝓤 H A mem run) → Triple 𝓤 (C #reader·reading·current) (Current 𝓤 H A mem run)
-      → Walks 𝓤 H A line-of.ended stayed (WpFn 𝓤 H C Λ code.function) (line-of.clauses 𝓤 H A mem run)
-  line-of-walks C Λ fm known-opened known-moved known-current = walked 𝓤 H A line-of.ended stayed (line-of.clauses 𝓤 H A mem run) (WpFn 𝓤 H C Λ code.function) (λ κs. (slice-vals, (uint-vals w64, tt))) (λ κs. (shr-slice-tells (named 0) (κs .0) u8, (uint-tells w64, tt)))
+  line-from-walks : (C : Calls 𝓤 H) (Λ : Loops 𝓤 H) → FmC 𝓤 H (W .laws) C → Triple 𝓤 (C #reader·reading·opened) (Opened 𝓤 H A mem run) → Triple 𝓤 (C #reader·reading·moved) (Moved 𝓤 H A mem run) → Triple 𝓤 (C #reader·reading·current) (Current 𝓤 H A mem run)
+      → Walks 𝓤 H A line-from.ended stayed (WpFn 𝓤 H C Λ code.function) (line-from.clauses 𝓤 H A mem run)
+  line-from-walks C Λ fm known-opened known-moved known-current = walked 𝓤 H A line-from.ended stayed (line-from.clauses 𝓤 H A mem run) (WpFn 𝓤 H C Λ code.function) (λ κs. (slice-vals, (uint-vals w64, tt))) (λ κs. (shr-slice-tells (named 0) (κs .0) u8, (uint-tells w64, tt)))
       (λ κs qs bounds a g are. via 𝓤 _ (fst∗ 𝓤 _ (emp 𝓤)) (walk 𝓤 H A W mem run (κs .0) (qs .0) (a .0) (a .1 .0) (are .1 .0 .1) C Λ fm known-opened known-moved known-current (are .0)))
 
-line-of-meets : {M : Type 1} (𝓤 : URA M) (H : Heap 𝓤) (A : Atoms 𝓤) (W : Given 𝓤 H A) (mem : Memory → SProp 𝓤) (run : Routine → Fun 𝓤) (𝓣 : Tables 𝓤 H)
+line-from-meets : {M : Type 1} (𝓤 : URA M) (H : Heap 𝓤) (A : Atoms 𝓤) (W : Given 𝓤 H A) (mem : Memory → SProp 𝓤) (run : Routine → Fun 𝓤) (𝓣 : Tables 𝓤 H)
     → Triple 𝓤 (𝓣 .C #reader·reading·opened) (Opened 𝓤 H A mem run) → Triple 𝓤 (𝓣 .C #reader·reading·moved) (Moved 𝓤 H A mem run) → Triple 𝓤 (𝓣 .C #reader·reading·current) (Current 𝓤 H A mem run)
-    → Meets 𝓤 H A line-of.signature (WpFn 𝓤 H (𝓣 .C) (𝓣 .Λ) code.function) (line-of.spec 𝓤 H A mem run)
-line-of-meets 𝓤 H A W mem run 𝓣 known-opened known-moved known-current = walk-meets 𝓤 H A line-of.ended stayed W
-    (goes-dropped 𝓤 H A W 1 (shrSliceOf (0 ∷ []) tt (plain (λ _. u8))) yes (λ κs x f. refl), (goes-dropped 𝓤 H A W 1 (plain (λ _. usize)) yes (λ κs x f. refl), tt)) (line-of.clauses 𝓤 H A mem run)
-    (WpFn 𝓤 H (𝓣 .C) (𝓣 .Λ) code.function) (WpFn-mono 𝓤 H (W .laws) 𝓣 code.function) (line-of-walks 𝓤 H A W mem run (𝓣 .C) (𝓣 .Λ) (fmOf 𝓤 H (W .laws) 𝓣) known-opened known-moved known-current)
+    → Meets 𝓤 H A line-from.signature (WpFn 𝓤 H (𝓣 .C) (𝓣 .Λ) code.function) (line-from.spec 𝓤 H A mem run)
+line-from-meets 𝓤 H A W mem run 𝓣 known-opened known-moved known-current = walk-meets 𝓤 H A line-from.ended stayed W
+    (goes-dropped 𝓤 H A W 1 (shrSliceOf (0 ∷ []) tt (plain (λ _. u8))) yes (λ κs x f. refl), (goes-dropped 𝓤 H A W 1 (plain (λ _. usize)) yes (λ κs x f. refl), tt)) (line-from.clauses 𝓤 H A mem run)
+    (WpFn 𝓤 H (𝓣 .C) (𝓣 .Λ) code.function) (WpFn-mono 𝓤 H (W .laws) 𝓣 code.function) (line-from-walks 𝓤 H A W mem run (𝓣 .C) (𝓣 .Λ) (fmOf 𝓤 H (W .laws) 𝓣) known-opened known-moved known-current)
 
-pub line-of-spec : {M : Type 1} → stated.statement M
+pub line-from-spec : {M : Type 1} → stated.statement M
 unfolding code.routine tablesOf
-line-of-spec 𝓤 H 𝓜 𝓖 𝓡 =
-    entered 𝓤 H (tripleOf 𝓤 H (𝓖 .A) line-of.signature (line-of.spec 𝓤 H (𝓖 .A) (𝓜 .mem) (𝓡 .run)))
-    (tables 𝓤 H 𝓜 𝓡 code.env .C) (tables 𝓤 H 𝓜 𝓡 code.env .Λ) #reader·reading·line-of code.function (code.unfolded 𝓤 H 𝓜 𝓡)
-    (line-of-meets 𝓤 H (𝓖 .A) (givenOf 𝓤 H 𝓜 𝓖) (𝓜 .mem) (𝓡 .run) (tablesOf 𝓤 H 𝓜 (tables 𝓤 H 𝓜 𝓡 code.env))
+line-from-spec 𝓤 H 𝓜 𝓖 𝓡 =
+    entered 𝓤 H (tripleOf 𝓤 H (𝓖 .A) line-from.signature (line-from.spec 𝓤 H (𝓖 .A) (𝓜 .mem) (𝓡 .run)))
+    (tables 𝓤 H 𝓜 𝓡 code.env .C) (tables 𝓤 H 𝓜 𝓡 code.env .Λ) #reader·reading·line-from code.function (code.unfolded 𝓤 H 𝓜 𝓡)
+    (line-from-meets 𝓤 H (𝓖 .A) (givenOf 𝓤 H 𝓜 𝓖) (𝓜 .mem) (𝓡 .run) (tablesOf 𝓤 H 𝓜 (tables 𝓤 H 𝓜 𝓡 code.env))
     (cited 𝓤 H (Opened 𝓤 H (𝓖 .A) (𝓜 .mem) (𝓡 .run)) 𝓜 𝓡 code.env #reader·reading·opened opened-def.routine code.calls-reader·reading·opened (opened-thm.met 𝓤 H 𝓜 𝓖 𝓡))
     (cited 𝓤 H (Moved 𝓤 H (𝓖 .A) (𝓜 .mem) (𝓡 .run)) 𝓜 𝓡 code.env #reader·reading·moved moved-def.routine code.calls-reader·reading·moved (moved-thm.met 𝓤 H 𝓜 𝓖 𝓡))
     (cited 𝓤 H (Current 𝓤 H (𝓖 .A) (𝓜 .mem) (𝓡 .run)) 𝓜 𝓡 code.env #reader·reading·current current-def.routine code.calls-reader·reading·current (current-thm.met 𝓤 H 𝓜 𝓖 𝓡)))
