@@ -1,6 +1,6 @@
 // The program `hosted`: a list of calls with those that no script has, which are new, ready and poll. Each call is made on two targets,
-// on the one as a host makes it and on the other by value, and both answers are printed, a line for each: every two lines are to say
-// the same.
+// on the one through `host`, which is lent a copy of it, and on the other by value. Both answers are printed, a line for each: every
+// two lines are to say the same.
 pub mod calls;
 pub mod said;
 

@@ -1,5 +1,6 @@
 // Prints an answer behind `lent` or `value`: as in a printout, and those of new, ready and poll, which no script has, as MADE, READY,
 // NOT_READY, REACHED and NONE_REACHED.
+use matching::refusals::Refusal;
 use portals::answers::AppendAnswer;
 use portals::answers::NewAnswer;
 use portals::answers::PlainAnswer;
@@ -7,8 +8,6 @@ use portals::answers::PollAnswer;
 use portals::answers::ReadyAnswer;
 use portals::answers::RequestAnswer;
 use printer::said;
-use text::decimals;
-use text::writing;
 ghost use Prim.Native.Nat.{_+_, _*_, _≤_};
 ghost use lib.ListN.{length};
 
@@ -26,26 +25,24 @@ fn say(way: &[u8], out: &[u8; 400], n: usize) {
     io::write_all(1, b"\n");
 }
 
-// The number of a call, a word and numbers.
-fn say_word(way: &[u8], k: usize, word: &[u8], numbers: &[u64])
-    requires { ⌜ 20 + length (now word) + 21 * length (now numbers) ≤ 400 ⌝ }
-{
-    let mut out = [0u8; 400];
-    let a = decimals::put_decimal(&mut out, 0, k as u64);
-    let b = writing::put_bytes(&mut out, a, word);
-    let n = decimals::put_fields(&mut out, b, numbers);
-    say(way, &out, n)
-}
-
 pub fn say_append(way: &[u8], k: usize, a: AppendAnswer) {
     let mut out = [0u8; 400];
     let n = said::append_said(&mut out, k, a);
     say(way, &out, n)
 }
 
-pub fn say_plain(way: &[u8], k: usize, a: PlainAnswer) {
+fn say_refused(way: &[u8], k: usize, refusal: Refusal) {
     let mut out = [0u8; 400];
-    let n = said::plain_said(&mut out, k, a);
+    let n = said::plain_said(&mut out, k, PlainAnswer::Refused(refusal));
+    say(way, &out, n)
+}
+
+// A word, and numbers behind it.
+fn say_word(way: &[u8], k: usize, word: &[u8], numbers: &[u64])
+    requires { ⌜ 20 + length (now word) + 21 * length (now numbers) ≤ 400 ⌝ }
+{
+    let mut out = [0u8; 400];
+    let n = said::put_said(&mut out, k, word, numbers);
     say(way, &out, n)
 }
 
@@ -58,7 +55,7 @@ pub fn say_put(way: &[u8], k: usize, a: RequestAnswer) {
 pub fn say_new(way: &[u8], k: usize, a: NewAnswer) {
     match a {
         NewAnswer::Made => say_word(way, k, b" MADE", &[]),
-        NewAnswer::Refused(refusal) => say_plain(way, k, PlainAnswer::Refused(refusal)),
+        NewAnswer::Refused(refusal) => say_refused(way, k, refusal),
     }
 }
 
@@ -66,7 +63,7 @@ pub fn say_ready(way: &[u8], k: usize, a: ReadyAnswer) {
     match a {
         ReadyAnswer::Ready => say_word(way, k, b" READY", &[]),
         ReadyAnswer::NotReady => say_word(way, k, b" NOT_READY", &[]),
-        ReadyAnswer::Refused(refusal) => say_plain(way, k, PlainAnswer::Refused(refusal)),
+        ReadyAnswer::Refused(refusal) => say_refused(way, k, refusal),
     }
 }
 
@@ -74,6 +71,6 @@ pub fn say_poll(way: &[u8], k: usize, a: PollAnswer) {
     match a {
         PollAnswer::Reached(place) => say_word(way, k, b" REACHED", &[place as u64]),
         PollAnswer::NoneReached => say_word(way, k, b" NONE_REACHED", &[]),
-        PollAnswer::Refused(refusal) => say_plain(way, k, PlainAnswer::Refused(refusal)),
+        PollAnswer::Refused(refusal) => say_refused(way, k, refusal),
     }
 }

@@ -1,5 +1,5 @@
-// The answers of the calls: an enum for each; before it, for a call that may change the state, the state that it leaves. The laws of
-// calls on a lent target (`thin`) ask for the two in this order.
+// The answers of the calls: an enum for each. A call that may change the state hands back the state that it leaves and then its
+// answer, in the order that the laws of `thin` ask for.
 use matching::refusals::Refusal;
 use state::layout::Counter;
 use state::layout::Event;

@@ -24,7 +24,7 @@ ghost use Rattle.printer.specs.Said.{SAID, said, kindText, failText, eve
 ghost use Rattle.state.specs.Kinds.{eventKind, failType};
 
 // The number of a call, a word and numbers.
-fn put_said(out: &mut [u8], k: usize, word: &[u8], numbers: &[u64]) -> usize
+pub fn put_said(out: &mut [u8], k: usize, word: &[u8], numbers: &[u64]) -> usize
     requires { ⌜ 20 + length (now word) + 21 * length (now numbers) ≤ length (now out) ⌝ }
     ensures { λ r. ⌜ Wrote (now (out .entry)) 0 (decimalOf k ++ (now (word .entry) ++ fieldsOf (now (numbers .entry)))) (20 + (length (now (word .entry)) + 21 * length (now (numbers .entry)))) (now (out .exit)) r ⌝ }
 {

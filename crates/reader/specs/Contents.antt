@@ -38,7 +38,7 @@ noLine = record { kind = 0; reserved = 0; length = 0; place = 0 }
 unfoldable pub lineAt : List ℕ → ℕ → Line
 lineAt s i = cond (leb (suc i) CALLS && leb (lineStart (suc i)) (length s)) (lineRead s (lineStart i)) noLine
 
--- the place behind place i: the next one, as long as a file can have a line at place i
+-- the place behind place i: the next one; from CALLS on, where no file has a line, i itself
 unfoldable pub nextPlace : ℕ → ℕ
 nextPlace i = cond (leb (suc i) CALLS) (i + 1) i
 

@@ -48,7 +48,7 @@ pub fn head_of(s: &[u8]) -> Head
 }
 
 // Line i of the contents. Beyond the last that a file can have, and beyond its end, it is all zero, which is no kind of call.
-pub fn line_at(s: &[u8], i: usize) -> Line
+pub(crate) fn line_at(s: &[u8], i: usize) -> Line
     ensures { λ r. ⌜ r ≡ lineAt (now (s .entry)) i ⌝ }
 {
     if CALLS <= i {
@@ -77,7 +77,7 @@ fn no_line() -> Line
     }
 }
 
-// Reads line i of the contents. The place behind it is the next one, as long as a file can have a line there.
+// Reads line i of the contents. The place behind it is i + 1; from 1,024 on, where no file has a line, it is i.
 pub fn read_at(s: &[u8], i: usize) -> LineRead
     ensures { λ r. ⌜ r ≡ readAt (now (s .entry)) i ⌝ }
 {

@@ -1,5 +1,5 @@
-// Document 01, "Script and printout": one call of a script, run and printed. Each call is made as a host makes it: a copy of the target
-// is lent to it.
+// Document 01, "Script and printout": one call of a script, run and printed. Each call is made through `host`: a copy of the target is lent
+// to it.
 use host::by_value;
 use matching::layout::Entry;
 use matching::layout::Request;
@@ -27,7 +27,7 @@ pub struct Stepped {
     pub length: usize,
 }
 
-// What a line leaves: the state, how many bytes of it are in the buffer, and the place of the next line, as the reader says.
+// The state that a line leaves, how many bytes of its text are in the buffer, and the place of the next line, as the reader says.
 pub struct LineStepped {
     pub target: Target,
     pub length: usize,

@@ -1,7 +1,8 @@
 -- A call that only reads a lent target, proved once for every call of its form:
---     pub fn f(t: &T, a: &[A], b: &[B]) -> Y { core(*t, a, b) }
--- The call by value, core, promises `P t (now (a .entry)) (now (b .entry)) r`, for any P, and f `P (now (t .entry)) (now (a .entry)) (now (b .entry)) r`. B is the answer's type.
---     look-meets       f's MIR meets f's contract, if core meets core's. Assumes `Given`.        look-lists       the same of the function by its name, which a call's proof cites. Assumes nothing
+--     pub fn f(t: &T, a: &[A], b: &[B]) -> Y { core(*t, a, b) }        of unsigned A and B
+-- The call by value, core, promises `P t (now (a .entry)) (now (b .entry)) r`, for any P, and f `P (now (t .entry)) (now (a .entry)) (now (b .entry)) r`. Z is the answer's type.
+--     look-meets: f's MIR meets f's contract, if core meets core's. Assumes `Given`.
+--     look-lists: the same of the function by its name, which a call's proof cites. Assumes nothing.
 use mathlib.Core.Path.{_≡_, refl, ap, subst}
 use Prim.Native.Nat.{ℕ}
 use mathlib.Core.List.{[], _∷_, List}
@@ -42,17 +43,17 @@ use denote.Triple.Clauses.{Clauses, Ended, ensured, lasts, closing}
 use denote.Exit.{yes}
 use Rattle.thin.proofs.Forms.{Passed, Plain, Lendable, TargetNames, target-names}
 
-module _ (T : Lendable) (B : Plain) (w₁ : Width) (w₂ : Width) (P : T .N .D → List ℕ → List ℕ → B .row .Denot → Type 0) (#core : Name) where
+module _ (T : Lendable) (Z : Plain) (w₁ : Width) (w₂ : Width) (P : T .N .D → List ℕ → List ℕ → Z .row .Denot → Type 0) (#core : Name) where
   open TargetNames (target-names T) using (N, L, pl, Tr, τT, val)
 
   abbrev Y : RattleType
-  Y = B .row
+  Y = Z .row
 
   abbrev τY : Ty
-  τY = B .ty
+  τY = Z .ty
 
   abbrev pY : Passed Y τY
-  pY = B .passed
+  pY = Z .passed
 
   abbrev A₁ : RattleType
   A₁ = UInt w₁

@@ -1,7 +1,8 @@
 -- A call that only reads a lent target, proved once for every call of its form:
 --     pub fn f(t: &T, x: X) -> Y { core(*t, x) }
--- The call by value, core, promises `P t x r`, for any P, and f `P (now (t .entry)) x r`. B is the answer's type.
---     look-meets       f's MIR meets f's contract, if core meets core's. Assumes `Given`.        look-one       the same of the function by its name, which a call's proof cites. Assumes nothing
+-- The call by value, core, promises `P t x r`, for any P, and f `P (now (t .entry)) x r`. Z is the answer's type.
+--     look-meets: f's MIR meets f's contract, if core meets core's. Assumes `Given`.
+--     look-one: the same of the function by its name, which a call's proof cites. Assumes nothing.
 use mathlib.Core.Path.{_≡_, refl, ap, subst}
 use Prim.Native.Nat.{ℕ}
 use mathlib.Core.List.{[], _∷_, List}
@@ -39,17 +40,17 @@ use denote.Triple.Clauses.{Clauses, Ended, ensured, lasts, closing}
 use denote.Exit.{yes}
 use Rattle.thin.proofs.Forms.{still, keeps, Passed, Plain, Lendable, TargetNames, target-names}
 
-module _ (T : Lendable) (B : Plain) (Z₁ : Plain) (P : T .N .D → Z₁ .row .Denot → B .row .Denot → Type 0) (#core : Name) where
+module _ (T : Lendable) (Z : Plain) (Z₁ : Plain) (P : T .N .D → Z₁ .row .Denot → Z .row .Denot → Type 0) (#core : Name) where
   open TargetNames (target-names T) using (N, L, pl, Tr, τT, val)
 
   abbrev Y : RattleType
-  Y = B .row
+  Y = Z .row
 
   abbrev τY : Ty
-  τY = B .ty
+  τY = Z .ty
 
   abbrev pY : Passed Y τY
-  pY = B .passed
+  pY = Z .passed
 
   abbrev R₁ : RattleType
   R₁ = Z₁ .row
