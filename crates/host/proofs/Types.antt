@@ -1,4 +1,5 @@
--- The types of the calls, as the laws of thin calls take them: the arguments, the answers, and the structs of target and answer that
+-- The types of the calls, as the laws of thin calls take them: the arguments, the answers, and the structs of target and answer
+-- that
 -- the calls by value hand back.
 use mathlib.Core.Path.{refl, ap}
 use denote.Steps.{only}

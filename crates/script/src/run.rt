@@ -1,5 +1,5 @@
-// Document 01, "Script and printout": one call of a script, run and printed. Each call is made through `host`: a copy of the target is lent
-// to it.
+// Document 01, "Script and printout": one call of a script, run and printed. Each call is made through `host`: a copy of the target is
+// lent to it.
 use host::by_value;
 use matching::layout::Entry;
 use matching::layout::Request;

@@ -1,6 +1,9 @@
--- A call by value over one that is lent its target (`ThinGet.antt`): code that the borrow checker covers cannot lend a struct, and calls this.
+-- A call by value over one that is lent its target (`ThinGet.antt`): code that the borrow checker covers cannot lend a struct,
+-- and calls this.
 --     pub fn g(t: T, s: &[u8], x: X, w: &mut [u8]) -> D { let mut u = t; let a = f(&mut u, s, x, w); D { target: u, answer: a } }
--- It promises what the call by value behind f promises, `P t (now (s .entry)) x (now (w .entry)) r (now (w .exit))`. The local is lent for a lifetime that is made for the call, and comes back at the last value that f's contract says.
+-- It promises what the call by value behind f promises, `P t (now (s .entry)) x (now (w .entry)) r (now (w .exit))`. The local
+-- is lent for a lifetime that is made for the call, and comes back at the last value that f's contract says.
+-- The laws:
 --     by-meets: g's MIR meets g's contract, if f meets f's. Assumes `Given`.
 --     by-get: the same of the function by its name, which a call's proof cites. Assumes nothing.
 use mathlib.Core.Path.{_≡_, refl, ap, subst}

@@ -1,6 +1,8 @@
--- A call by value over one that reads a lent target (`LookLists.antt`): code that the borrow checker covers cannot lend a struct, and calls this.
+-- A call by value over one that reads a lent target (`LookLists.antt`): code that the borrow checker covers cannot lend a
+-- struct, and calls this.
 --     pub fn g(t: T, a: &[A], b: &[B]) -> Y { f(&t, a, b) }        of unsigned A and B
 -- It promises what the call by value behind f promises, `P t (now (a .entry)) (now (b .entry)) r`.
+-- The laws:
 --     by-meets: g's MIR meets g's contract, if f meets f's. Assumes `Given`.
 --     by-look-lists: the same of the function by its name, which a call's proof cites. Assumes nothing.
 use mathlib.Core.Path.{_≡_, refl, ap, subst}

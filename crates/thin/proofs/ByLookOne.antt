@@ -1,6 +1,8 @@
--- A call by value over one that reads a lent target (`LookOne.antt`): code that the borrow checker covers cannot lend a struct, and calls this.
+-- A call by value over one that reads a lent target (`LookOne.antt`): code that the borrow checker covers cannot lend a struct,
+-- and calls this.
 --     pub fn g(t: T, x: X) -> Y { f(&t, x) }
 -- It promises what the call by value behind f promises, `P t x r`.
+-- The laws:
 --     by-meets: g's MIR meets g's contract, if f meets f's. Assumes `Given`.
 --     by-look-one: the same of the function by its name, which a call's proof cites. Assumes nothing.
 use mathlib.Core.Path.{_≡_, refl, ap, subst}

@@ -1,6 +1,11 @@
 -- A call that only reads a lent target, proved once for every call of its form:
 --     pub fn f(t: &T, a: &[A], b: &[B]) -> Y { core(*t, a, b) }        of unsigned A and B
--- The call by value, core, promises `P t (now (a .entry)) (now (b .entry)) r`, for any P, and f `P (now (t .entry)) (now (a .entry)) (now (b .entry)) r`. Z is the answer's type.
+-- The call by value, core, promises, for any P,
+--     P t (now (a .entry)) (now (b .entry)) r
+-- and f
+--     P (now (t .entry)) (now (a .entry)) (now (b .entry)) r
+-- Z is the answer's type.
+-- The laws:
 --     look-meets: f's MIR meets f's contract, if core meets core's. Assumes `Given`.
 --     look-lists: the same of the function by its name, which a call's proof cites. Assumes nothing.
 use mathlib.Core.Path.{_≡_, refl, ap, subst}

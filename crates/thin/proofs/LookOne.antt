@@ -1,6 +1,11 @@
 -- A call that only reads a lent target, proved once for every call of its form:
 --     pub fn f(t: &T, x: X) -> Y { core(*t, x) }
--- The call by value, core, promises `P t x r`, for any P, and f `P (now (t .entry)) x r`. Z is the answer's type.
+-- The call by value, core, promises, for any P,
+--     P t x r
+-- and f
+--     P (now (t .entry)) x r
+-- Z is the answer's type.
+-- The laws:
 --     look-meets: f's MIR meets f's contract, if core meets core's. Assumes `Given`.
 --     look-one: the same of the function by its name, which a call's proof cites. Assumes nothing.
 use mathlib.Core.Path.{_≡_, refl, ap, subst}

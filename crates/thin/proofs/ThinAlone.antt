@@ -1,6 +1,10 @@
 -- A call over a lent target, proved once for every call of its form:
 --     pub fn f(t: &mut T) -> Y { let r = core(*t); *t = r.target; r.answer }
--- The call by value, core, promises `P t r`, for any P, and f `P (now (t .entry)) (record { target = now (t .exit); answer = r })`.
+-- The call by value, core, promises, for any P,
+--     P t r
+-- and f
+--     P (now (t .entry)) (record { target = now (t .exit); answer = r })
+-- The laws:
 --     own-meets: f's MIR meets f's contract, if core meets core's. Assumes `Given`.
 --     thin-alone: the same of the function by its name, which a call's proof cites. Assumes nothing.
 use mathlib.Core.Path.{_≡_, refl, sym, subst}

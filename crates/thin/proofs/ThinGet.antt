@@ -1,6 +1,10 @@
 -- A call over a lent target, proved once for every call of its form:
 --     pub fn f(t: &mut T, s: &[u8], x: X, w: &mut [u8]) -> Y { let r = core(*t, s, x, w); *t = r.target; r.answer }
--- The call by value, core, promises `P t (now (s .entry)) x (now (w .entry)) r (now (w .exit))`, for any P, and f `P (now (t .entry)) (now (s .entry)) x (now (w .entry)) (record { target = now (t .exit); answer = r }) (now (w .exit))`.
+-- The call by value, core, promises, for any P,
+--     P t (now (s .entry)) x (now (w .entry)) r (now (w .exit))
+-- and f
+--     P (now (t .entry)) (now (s .entry)) x (now (w .entry)) (record { target = now (t .exit); answer = r }) (now (w .exit))
+-- The laws:
 --     own-meets: f's MIR meets f's contract, if core meets core's. Assumes `Given`.
 --     thin-get: the same of the function by its name, which a call's proof cites. Assumes nothing.
 use mathlib.Core.Path.{_≡_, refl, sym, subst}

@@ -1,6 +1,11 @@
 -- Making a target in a place that is lent, proved for every call of its form:
 --     pub fn f(t: &mut T, x: X) -> Y { let r = core(x); *t = r.target; r.answer }
--- The call by value, core, promises `P x r`, for any P, and f `P x (record { target = now (t .exit); answer = r })`: what was there is not read.
+-- The call by value, core, promises, for any P,
+--     P x r
+-- and f
+--     P x (record { target = now (t .exit); answer = r })
+-- What was there is not read.
+-- The laws:
 --     own-meets: f's MIR meets f's contract, if core meets core's. Assumes `Given`.
 --     thin-new: the same of the function by its name, which a call's proof cites. Assumes nothing.
 use mathlib.Core.Path.{_≡_, refl, sym, subst}

@@ -1,6 +1,10 @@
 -- A call over a lent target, proved once for every call of its form:
 --     pub fn f(t: &mut T, w: &mut [u8], x: X, s: &[u8]) -> Y { let r = core(*t, w, x, s); *t = r.target; r.answer }
--- The call by value, core, promises `P t (now (w .entry)) x (now (s .entry)) r (now (w .exit))`, for any P, and f `P (now (t .entry)) (now (w .entry)) x (now (s .entry)) (record { target = now (t .exit); answer = r }) (now (w .exit))`.
+-- The call by value, core, promises, for any P,
+--     P t (now (w .entry)) x (now (s .entry)) r (now (w .exit))
+-- and f
+--     P (now (t .entry)) (now (w .entry)) x (now (s .entry)) (record { target = now (t .exit); answer = r }) (now (w .exit))
+-- The laws:
 --     own-meets: f's MIR meets f's contract, if core meets core's. Assumes `Given`.
 --     thin-put: the same of the function by its name, which a call's proof cites. Assumes nothing.
 use mathlib.Core.Path.{_≡_, refl, sym, subst}

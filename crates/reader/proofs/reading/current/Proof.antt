@@ -1,5 +1,7 @@
--- `reader::reading::current` meets its contract: a walk of its MIR, by hand. The reader is taken apart, and `read_at` is called on the script and the number. All that the proof knows of `read_at` is that it meets its contract.
--- The struct is Copy: what it owns is had twice, one copy is kept whole for the exit, and of the other what the script owns goes to the callee, beside the lifetime's token, which comes back.
+-- `reader::reading::current` meets its contract: a walk of its MIR, by hand. The reader is taken apart, and `read_at` is called
+-- on the script and the number. All that the proof knows of `read_at` is that it meets its contract.
+-- The struct is Copy: what it owns is had twice, one copy is kept whole for the exit, and of the other what the script owns goes
+-- to the callee, beside the lifetime's token, which comes back.
 -- Assumes nothing.
 use mathlib.Core.Path.{_≡_, refl}
 use Prim.Native.Nat.{_<_, _^_}

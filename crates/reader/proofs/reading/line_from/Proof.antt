@@ -1,5 +1,8 @@
--- `reader::reading::line_from` meets its contract: a walk of its MIR, by hand. The reader that `opened` returns is held in a local and passed to `moved`, and that of `moved` to `current`. All that the proof knows of the three is that each meets its contract.
--- The machine value of a reader is stored and passed on as it is. In a local of a body MIR erases the lifetime of the struct's type, so the value is shown to have the type at `erased`: what the struct owns does not say the lifetime's name.
+-- `reader::reading::line_from` meets its contract: a walk of its MIR, by hand. The reader that `opened` returns is held in a
+-- local and passed to `moved`, and that of `moved` to `current`. All that the proof knows of the three is that each meets its
+-- contract.
+-- The machine value of a reader is stored and passed on as it is. In a local of a body MIR erases the lifetime of the struct's
+-- type, so the value is shown to have the type at `erased`: what the struct owns does not say the lifetime's name.
 -- Assumes nothing.
 use mathlib.Core.Path.{_≡_, refl, ap, _∙_}
 use Prim.Native.Nat.{ℕ, _<_, _^_}

@@ -1,5 +1,7 @@
--- `reader::reading::moved` meets its contract: a walk of its MIR, by hand. A `Reader` is made anew of the script that the one passed holds, and another number.
--- The struct is Copy: what it owns is had twice, one copy is kept whole for the exit, and the other, with the facts of the number in the place of next's, is what the result owns.
+-- `reader::reading::moved` meets its contract: a walk of its MIR, by hand. A `Reader` is made anew of the script that the one
+-- passed holds, and another number.
+-- The struct is Copy: what it owns is had twice, one copy is kept whole for the exit, and the other, with the facts of the
+-- number in the place of next's, is what the result owns.
 -- Assumes nothing.
 use mathlib.Core.Path.{refl}
 use Prim.Native.Nat.{ℕ, _<_, _^_}

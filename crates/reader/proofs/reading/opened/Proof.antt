@@ -1,5 +1,7 @@
--- `reader::reading::opened` meets its contract: a walk of its MIR, by hand. A `Reader` is made of the slice passed and 0, in the result's local.
--- A `&[u8]` is Copy, so what it owns is had twice: once for the script at exit, and once inside the result, beside the facts of next.
+-- `reader::reading::opened` meets its contract: a walk of its MIR, by hand. A `Reader` is made of the slice passed and 0, in the
+-- result's local.
+-- A `&[u8]` is Copy, so what it owns is had twice: once for the script at exit, and once inside the result, beside the facts of
+-- next.
 -- Assumes nothing.
 use mathlib.Core.Path.{refl}
 use Prim.Native.Nat.{ℕ}
