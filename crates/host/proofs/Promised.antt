@@ -1,13 +1,9 @@
 -- Demand 3 covers the calls that hosts make: they are the steps of the lists that the theorem of conservation is about.
 --
--- A call on a lent target is proved to meet its `spec`, which the toolchain makes of its `requires` and `ensures`. For each call
--- this
--- page shows, by computation alone (`-promised`), that its spec asks nothing, and that what it says is the call's record of
--- `portals`,
--- at the target as it was lent and as it is left. That record is what a step of a list is made of (`-steps`): from the target
--- that was
--- lent to the target that is left. `new` begins a list (`new-begins`). The calls by value over these have the contracts of the
--- calls in
+-- A call on a lent target is proved to meet its `spec`, which the toolchain makes of its `requires` and `ensures`. For each call this
+-- page shows, by computation alone (`-promised`), that its spec asks nothing, and that what it says is the call's record of `portals`,
+-- at the target as it was lent and as it is left. That record is what a step of a list is made of (`-steps`): from the target that was
+-- lent to the target that is left. `new` begins a list (`new-begins`). The calls by value over these have the contracts of the calls in
 -- `portals` (`-same`), which `portals` ties to the records in its own page of this name. A contract that says less or more, or that
 -- asks something of its caller, is refused here.
 use mathlib.Core.Path.{_≡_, refl}

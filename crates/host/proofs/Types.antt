@@ -1,9 +1,19 @@
--- The types of the calls, as the laws of thin calls take them: the arguments, the answers, and the structs of target and answer
--- that
--- the calls by value hand back.
-use mathlib.Core.Path.{refl, ap}
+-- The types of the calls, as the laws of calls on a lent target take them: the arguments, the answers, and the structs of target and
+-- answer that the calls by value hand back.
+use mathlib.Core.Path.{_≡_, refl, subst, ap}
+use mathlib.Core.List.{[], _∷_}
+use mir.Syntax.{Sym}
+use denote.Lowered.{Lowered}
+use denote.Laws.{Is, valss}
 use denote.Steps.{only}
+use denote.Struct.Record.{Record, Propositions, declared, Done as NoGhost}
+use denote.Struct.Declared as S
+use denote.Struct.Struct.{Plains, AreAll}
+use denote.Struct.Values.{intos}
 use denote.Struct.Laws as laws
+use denote.Enum.Declared as E
+use denote.Enum.Enum as Enum
+use denote.Enum.Laws as variants
 use Rattle.thin.proofs.Forms.{Plain, Lendable, Done, struct, enum}
 use Rattle.state.proofs.layout.Target as Target
 use Rattle.state.proofs.layout.Target.Laws as Target′
@@ -38,17 +48,11 @@ use Rattle.portals.proofs.answers.ReadyAnswer.Laws as ReadyAnswer′
 use Rattle.portals.proofs.answers.PollAnswer as PollAnswer
 use Rattle.portals.proofs.answers.PollAnswer.Laws as PollAnswer′
 use Rattle.portals.proofs.answers.NewDone as NewDone
-use Rattle.portals.proofs.answers.NewDone.Laws as NewDone′
 use Rattle.portals.proofs.answers.AppendDone as AppendDone
-use Rattle.portals.proofs.answers.AppendDone.Laws as AppendDone′
 use Rattle.portals.proofs.answers.PlainDone as PlainDone
-use Rattle.portals.proofs.answers.PlainDone.Laws as PlainDone′
 use Rattle.portals.proofs.answers.SearchDone as SearchDone
-use Rattle.portals.proofs.answers.SearchDone.Laws as SearchDone′
 use Rattle.portals.proofs.answers.RequestDone as RequestDone
-use Rattle.portals.proofs.answers.RequestDone.Laws as RequestDone′
 use Rattle.portals.proofs.answers.EventDone as EventDone
-use Rattle.portals.proofs.answers.EventDone.Laws as EventDone′
 
 -- ## Arguments
 
@@ -67,25 +71,7 @@ change = struct CounterChange.the-type CounterChange′.the-laws CounterChange�
 abbrev pub test : Plain
 test = struct CounterTest.the-type CounterTest′.the-laws CounterTest′.the-plain
 
--- ## Answers
-
-abbrev pub new-answer : Plain
-new-answer = enum NewAnswer.the-type NewAnswer′.the-laws NewAnswer′.the-plain tt
-
-abbrev pub append-answer : Plain
-append-answer = enum AppendAnswer.the-type AppendAnswer′.the-laws AppendAnswer′.the-plain tt
-
-abbrev pub plain-answer : Plain
-plain-answer = enum PlainAnswer.the-type PlainAnswer′.the-laws PlainAnswer′.the-plain tt
-
-abbrev pub search-answer : Plain
-search-answer = enum SearchAnswer.the-type SearchAnswer′.the-laws SearchAnswer′.the-plain tt
-
-abbrev pub request-answer : Plain
-request-answer = enum RequestAnswer.the-type RequestAnswer′.the-laws RequestAnswer′.the-plain tt
-
-abbrev pub event-answer : Plain
-event-answer = enum EventAnswer.the-type EventAnswer′.the-laws EventAnswer′.the-plain tt
+-- ## Answers of the calls that only read
 
 abbrev pub counter-answer : Plain
 counter-answer = enum CounterAnswer.the-type CounterAnswer′.the-laws CounterAnswer′.the-plain tt
@@ -104,104 +90,87 @@ poll-answer = enum PollAnswer.the-type PollAnswer′.the-laws PollAnswer′.the-
 abbrev pub target : Lendable
 target = record { N = Target.the-type; L = Target′.the-laws; pl = Target′.the-plain; cp = Target′.the-copy }
 
+-- The struct of target and answer that a call by value hands back. All that is asked of it follows from its two fields, for any enum A of
+-- answers and any struct that takes apart into the two and is made of them.
+module _ (A : E.Declared) (L : variants.Laws A) (few : Enum.Few (E.shape A)) (low : Lowered (E.row A)) (pl : Enum.Plainss (E.variants A)) where
+  abbrev Both : Type 0
+  Both = Target.the-type .D × (A .D × Unit {0})
+
+  module _ (name : Sym) (D : Type 0) (apart : D → Both) (made : Both → D) (eta : (d : D) → made (apart d) ≡ d) (beta : (v : Both) → apart (made v) ≡ v) where
+    abbrev fields : Record
+    fields = record {
+      name = name;
+      args = [];
+      parts = Target.the-field ∷ E.field A ∷ [];
+      D = D;
+      as-values = apart;
+      Ghost = λ v. NoGhost;
+      ghosts = λ d. tt;
+      make = λ v g. made v;
+      eta = eta;
+      beta = λ v g. beta v;
+    }
+
+    module _ (alone : Propositions fields) where
+      abbrev N : S.Declared
+      N = declared fields alone
+
+      abbrev Ls : laws.Laws N
+      Ls = (Target′.the-field-laws, (variants.field-laws A L few low, tt))
+
+      abbrev pls : Plains (S.fields N)
+      pls = (Target′.the-field-plain, (variants.field-plain A pl, tt))
+
+      -- a struct that is made is spelled as its two fields
+      pub joins : (v : Both) → AreAll (S.fields N) (intos (fields .parts) v) (valss (S.fields N) (laws.spells (fields .parts) Ls) (intos (fields .parts) v)) → Is (S.row N) (made v) (laws.tuple-val N Ls (intos (fields .parts) v) ∷ [])
+      joins v =
+          subst
+          (λ (u : Both). AreAll (S.fields N) (intos (fields .parts) u) (valss (S.fields N) (laws.spells (fields .parts) Ls) (intos (fields .parts) u)) → Is (S.row N) (made v) (laws.tuple-val N Ls (intos (fields .parts) u) ∷ []))
+          (beta v) (laws.owes N Ls (made v))
+
+      abbrev pub done : Done
+      done = record {
+        T = target;
+        Y = enum A L pl few;
+        D = S.row N;
+        ν = name;
+        target = λ d. apart d .0;
+        answer = λ d. apart d .1 .0;
+        make = λ t y. made (t, (y, tt));
+        eta = eta;
+        spelled = λ d v is. ap only (laws.tells N Ls d _ is);
+        typed = λ M 𝓤 H A W d v is. laws.lawful N Ls 𝓤 H A W .typed d _ is .0;
+        parts = λ d v is. (laws.owed N Ls d _ is .0, laws.owed N Ls d _ is .1 .0);
+        joined = λ t y p q. joins (t, (y, tt)) (p, (q, tt));
+        makes = λ M 𝓤 H A W. laws.makes N pls 𝓤 H A;
+      }
+
 abbrev pub new-done : Done
-new-done = record {
-  T = target;
-  Y = new-answer;
-  D = NewDone.the-row;
-  ν = NewDone.struct .name;
-  target = λ d. d .target;
-  answer = λ d. d .answer;
-  make = λ t y. record { target = t; answer = y };
-  eta = λ d. refl;
-  spelled = λ d v is. ap only (laws.tells NewDone.the-type NewDone′.the-laws d _ is);
-  typed = λ M 𝓤 H A W d v is. laws.lawful NewDone.the-type NewDone′.the-laws 𝓤 H A W .typed d _ is .0;
-  parts = λ d v is. (laws.owed NewDone.the-type NewDone′.the-laws d _ is .0, laws.owed NewDone.the-type NewDone′.the-laws d _ is .1 .0);
-  joined = λ t y p q. laws.owes NewDone.the-type NewDone′.the-laws (record { target = t; answer = y }) (p, (q, tt));
-  makes = λ M 𝓤 H A W. laws.makes NewDone.the-type NewDone′.the-plain 𝓤 H A;
-}
+new-done =
+    done NewAnswer.the-type NewAnswer′.the-laws tt NewAnswer′.lowers NewAnswer′.the-plain
+    (NewDone.struct .name) (NewDone.struct .D) (NewDone.struct .as-values) (λ v. NewDone.struct .make v tt) (λ d. refl) (λ v. refl) NewDone.propositions
 
 abbrev pub append-done : Done
-append-done = record {
-  T = target;
-  Y = append-answer;
-  D = AppendDone.the-row;
-  ν = AppendDone.struct .name;
-  target = λ d. d .target;
-  answer = λ d. d .answer;
-  make = λ t y. record { target = t; answer = y };
-  eta = λ d. refl;
-  spelled = λ d v is. ap only (laws.tells AppendDone.the-type AppendDone′.the-laws d _ is);
-  typed = λ M 𝓤 H A W d v is. laws.lawful AppendDone.the-type AppendDone′.the-laws 𝓤 H A W .typed d _ is .0;
-  parts = λ d v is. (laws.owed AppendDone.the-type AppendDone′.the-laws d _ is .0, laws.owed AppendDone.the-type AppendDone′.the-laws d _ is .1 .0);
-  joined = λ t y p q. laws.owes AppendDone.the-type AppendDone′.the-laws (record { target = t; answer = y }) (p, (q, tt));
-  makes = λ M 𝓤 H A W. laws.makes AppendDone.the-type AppendDone′.the-plain 𝓤 H A;
-}
+append-done =
+    done AppendAnswer.the-type AppendAnswer′.the-laws tt AppendAnswer′.lowers AppendAnswer′.the-plain
+    (AppendDone.struct .name) (AppendDone.struct .D) (AppendDone.struct .as-values) (λ v. AppendDone.struct .make v tt) (λ d. refl) (λ v. refl) AppendDone.propositions
 
 abbrev pub plain-done : Done
-plain-done = record {
-  T = target;
-  Y = plain-answer;
-  D = PlainDone.the-row;
-  ν = PlainDone.struct .name;
-  target = λ d. d .target;
-  answer = λ d. d .answer;
-  make = λ t y. record { target = t; answer = y };
-  eta = λ d. refl;
-  spelled = λ d v is. ap only (laws.tells PlainDone.the-type PlainDone′.the-laws d _ is);
-  typed = λ M 𝓤 H A W d v is. laws.lawful PlainDone.the-type PlainDone′.the-laws 𝓤 H A W .typed d _ is .0;
-  parts = λ d v is. (laws.owed PlainDone.the-type PlainDone′.the-laws d _ is .0, laws.owed PlainDone.the-type PlainDone′.the-laws d _ is .1 .0);
-  joined = λ t y p q. laws.owes PlainDone.the-type PlainDone′.the-laws (record { target = t; answer = y }) (p, (q, tt));
-  makes = λ M 𝓤 H A W. laws.makes PlainDone.the-type PlainDone′.the-plain 𝓤 H A;
-}
+plain-done =
+    done PlainAnswer.the-type PlainAnswer′.the-laws tt PlainAnswer′.lowers PlainAnswer′.the-plain
+    (PlainDone.struct .name) (PlainDone.struct .D) (PlainDone.struct .as-values) (λ v. PlainDone.struct .make v tt) (λ d. refl) (λ v. refl) PlainDone.propositions
 
 abbrev pub search-done : Done
-search-done = record {
-  T = target;
-  Y = search-answer;
-  D = SearchDone.the-row;
-  ν = SearchDone.struct .name;
-  target = λ d. d .target;
-  answer = λ d. d .answer;
-  make = λ t y. record { target = t; answer = y };
-  eta = λ d. refl;
-  spelled = λ d v is. ap only (laws.tells SearchDone.the-type SearchDone′.the-laws d _ is);
-  typed = λ M 𝓤 H A W d v is. laws.lawful SearchDone.the-type SearchDone′.the-laws 𝓤 H A W .typed d _ is .0;
-  parts = λ d v is. (laws.owed SearchDone.the-type SearchDone′.the-laws d _ is .0, laws.owed SearchDone.the-type SearchDone′.the-laws d _ is .1 .0);
-  joined = λ t y p q. laws.owes SearchDone.the-type SearchDone′.the-laws (record { target = t; answer = y }) (p, (q, tt));
-  makes = λ M 𝓤 H A W. laws.makes SearchDone.the-type SearchDone′.the-plain 𝓤 H A;
-}
+search-done =
+    done SearchAnswer.the-type SearchAnswer′.the-laws tt SearchAnswer′.lowers SearchAnswer′.the-plain
+    (SearchDone.struct .name) (SearchDone.struct .D) (SearchDone.struct .as-values) (λ v. SearchDone.struct .make v tt) (λ d. refl) (λ v. refl) SearchDone.propositions
 
 abbrev pub request-done : Done
-request-done = record {
-  T = target;
-  Y = request-answer;
-  D = RequestDone.the-row;
-  ν = RequestDone.struct .name;
-  target = λ d. d .target;
-  answer = λ d. d .answer;
-  make = λ t y. record { target = t; answer = y };
-  eta = λ d. refl;
-  spelled = λ d v is. ap only (laws.tells RequestDone.the-type RequestDone′.the-laws d _ is);
-  typed = λ M 𝓤 H A W d v is. laws.lawful RequestDone.the-type RequestDone′.the-laws 𝓤 H A W .typed d _ is .0;
-  parts = λ d v is. (laws.owed RequestDone.the-type RequestDone′.the-laws d _ is .0, laws.owed RequestDone.the-type RequestDone′.the-laws d _ is .1 .0);
-  joined = λ t y p q. laws.owes RequestDone.the-type RequestDone′.the-laws (record { target = t; answer = y }) (p, (q, tt));
-  makes = λ M 𝓤 H A W. laws.makes RequestDone.the-type RequestDone′.the-plain 𝓤 H A;
-}
+request-done =
+    done RequestAnswer.the-type RequestAnswer′.the-laws tt RequestAnswer′.lowers RequestAnswer′.the-plain
+    (RequestDone.struct .name) (RequestDone.struct .D) (RequestDone.struct .as-values) (λ v. RequestDone.struct .make v tt) (λ d. refl) (λ v. refl) RequestDone.propositions
 
 abbrev pub event-done : Done
-event-done = record {
-  T = target;
-  Y = event-answer;
-  D = EventDone.the-row;
-  ν = EventDone.struct .name;
-  target = λ d. d .target;
-  answer = λ d. d .answer;
-  make = λ t y. record { target = t; answer = y };
-  eta = λ d. refl;
-  spelled = λ d v is. ap only (laws.tells EventDone.the-type EventDone′.the-laws d _ is);
-  typed = λ M 𝓤 H A W d v is. laws.lawful EventDone.the-type EventDone′.the-laws 𝓤 H A W .typed d _ is .0;
-  parts = λ d v is. (laws.owed EventDone.the-type EventDone′.the-laws d _ is .0, laws.owed EventDone.the-type EventDone′.the-laws d _ is .1 .0);
-  joined = λ t y p q. laws.owes EventDone.the-type EventDone′.the-laws (record { target = t; answer = y }) (p, (q, tt));
-  makes = λ M 𝓤 H A W. laws.makes EventDone.the-type EventDone′.the-plain 𝓤 H A;
-}
+event-done =
+    done EventAnswer.the-type EventAnswer′.the-laws tt EventAnswer′.lowers EventAnswer′.the-plain
+    (EventDone.struct .name) (EventDone.struct .D) (EventDone.struct .as-values) (λ v. EventDone.struct .make v tt) (λ d. refl) (λ v. refl) EventDone.propositions
