@@ -58,7 +58,7 @@ fn zero_header() -> Header
     }
 }
 
-fn zero_event() -> Event
+pub fn zero_event() -> Event
     ensures { λ r. ⌜ r ≡ zeroEvent ⌝ }
 {
     Event {

@@ -1,0 +1,17 @@
+use Rattle.gussetreed.proofs.Telling.{told}
+use Rattle.gussetreed.specs.Replies.{replyOf}
+use borrow.Author.Needs.{needs}
+use Rattle.gussetreed.proofs.replied.increment.Statement.{statement}
+use Rattle.gussetreed.proofs.replied.increment.Tie as tie
+
+increment-requires : tie.Need-increment-requires
+increment-requires c κs = search needs
+
+plain-reply-requires : tie.Need-plain-reply-requires
+plain-reply-requires c κs = search needs
+
+returns : tie.Need-returns
+returns c = told replyOf (c .before .before .increment .ensures) (c .before .plain-reply .ensures)
+
+pub increment-spec : {M : Type 1} → statement M
+increment-spec = tie.close (tie.spec increment-requires plain-reply-requires returns)

@@ -1,0 +1,17 @@
+use Rattle.gussetreed.proofs.Telling.{told}
+use Rattle.gussetreed.specs.Replies.{eventReplyOf}
+use borrow.Author.Needs.{needs}
+use Rattle.gussetreed.proofs.replied.read_event.Statement.{statement}
+use Rattle.gussetreed.proofs.replied.read_event.Tie as tie
+
+read-event-requires : tie.Need-read-event-requires
+read-event-requires c κs = search needs
+
+event-reply-requires : tie.Need-event-reply-requires
+event-reply-requires c κs = search needs
+
+returns : tie.Need-returns
+returns c = told eventReplyOf (c .before .before .read-event .ensures) (c .before .event-reply .ensures)
+
+pub read-event-spec : {M : Type 1} → statement M
+read-event-spec = tie.close (tie.spec read-event-requires event-reply-requires returns)

@@ -1,0 +1,29 @@
+use Rattle.gussetreed.proofs.Telling.{known}
+use Rattle.portals.specs.Answers.{counterAnswer}
+use Rattle.gussetreed.specs.Replies.{replyOf}
+use borrow.Author.Needs.{needs}
+use Rattle.gussetreed.proofs.replies.counter_reply.Statement.{statement}
+use Rattle.gussetreed.proofs.replies.counter_reply.Tie as tie
+
+enum-known-a : tie.Need-enum-known-a
+enum-known-a c = search needs
+
+reply-requires : tie.Need-reply-requires
+reply-requires c κs = search needs
+
+enum-known-a-2 : tie.Need-enum-known-a-2
+enum-known-a-2 c = search needs
+
+refusal-reply-requires : tie.Need-refusal-reply-requires
+refusal-reply-requires c κs = search needs
+
+returns : tie.Need-returns
+returns c = known (λ a. replyOf (counterAnswer a)) (c .reply .ensures) (c .before .before .a .given .1)
+
+returns-2 : tie.Need-returns-2
+returns-2 c = known (λ a. replyOf (counterAnswer a)) (c .refusal-reply .ensures) (c .before .before .a2 .given .1)
+
+pub counter-reply-spec : {M : Type 1} → statement M
+counter-reply-spec =
+    tie.close
+    (tie.spec enum-known-a reply-requires enum-known-a-2 refusal-reply-requires returns returns-2)

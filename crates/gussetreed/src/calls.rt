@@ -1,0 +1,147 @@
+// Document 01: "The target's state stays with the caller, who lends it to each call." The calls as C sees them.
+//
+// A target is lent by a pointer, a slice is a pointer and a length, all else goes by value. What a caller owes is in the header,
+// include/gussetreed.h.
+use crate::layout::EventReply;
+use crate::layout::Reply;
+use crate::replied;
+use matching::layout::Entry;
+use matching::layout::Request;
+use state::layout::CounterChange;
+use state::layout::CounterTest;
+use state::layout::Settings;
+use state::layout::Target;
+ghost use Rattle.gussetreed.specs.Replies.{NewTold, AppendTold, UnlinkTold, SearchTold, PutTold, GetTold, ReadEventTold, SetCounterTold, IncrementTold, ReadCounterTold, ReadRegisterTold, ReadyTold, PollTold};
+
+// Makes a target of a size in a place that its caller lends. What the place held is not read, and is lost: beside a refusal too,
+// where a target of size 0 comes to stand there.
+#[no_mangle]
+pub extern "C" fn gussetreed_new(place: &mut Target, s: Settings) -> Reply
+    ensures { λ r. ⌜ NewTold s (record { target = now (place .exit); answer = r }) ⌝ }
+{
+    let r = replied::new(s);
+    *place = r.target;
+    r.answer
+}
+
+// Appends an entry: LINKED or TAKEN.
+#[no_mangle]
+pub extern "C" fn gussetreed_append(t: &mut Target, e: Entry) -> Reply
+    ensures { λ r. ⌜ AppendTold (now (t .entry)) e (record { target = now (t .exit); answer = r }) ⌝ }
+{
+    let r = replied::append(*t, e);
+    *t = r.target;
+    r.answer
+}
+
+// Unlinks an entry by its handle: DONE.
+#[no_mangle]
+pub extern "C" fn gussetreed_unlink(t: &mut Target, handle: u32) -> Reply
+    ensures { λ r. ⌜ UnlinkTold (now (t .entry)) handle (record { target = now (t .exit); answer = r }) ⌝ }
+{
+    let r = replied::unlink(*t, handle);
+    *t = r.target;
+    r.answer
+}
+
+// Searches the unexpected headers; the entry has the mode, 0 look or 1 delete, in place of the list: SEARCHED.
+#[no_mangle]
+pub extern "C" fn gussetreed_search(t: &mut Target, e: Entry) -> Reply
+    ensures { λ r. ⌜ SearchTold (now (t .entry)) e (record { target = now (t .exit); answer = r }) ⌝ }
+{
+    let r = replied::search(*t, e);
+    *t = r.target;
+    r.answer
+}
+
+// Takes a put: PRIORITY, OVERFLOW, DROPPED, PERM or OP. Only the memory may be written.
+#[no_mangle]
+pub extern "C" fn gussetreed_put(
+    t: &mut Target,
+    memory: &mut [u8],
+    q: Request,
+    payload: &[u8],
+) -> Reply
+    ensures { λ r. ⌜ PutTold (now (t .entry)) (now (memory .entry)) q (now (payload .entry)) (record { target = now (t .exit); answer = r }) (now (memory .exit)) ⌝ }
+{
+    let r = replied::put(*t, memory, q, payload);
+    *t = r.target;
+    r.answer
+}
+
+// Takes a get: the answers of a put. Only the buffer may be written, from its start on.
+#[no_mangle]
+pub extern "C" fn gussetreed_get(
+    t: &mut Target,
+    memory: &[u8],
+    q: Request,
+    buffer: &mut [u8],
+) -> Reply
+    ensures { λ r. ⌜ GetTold (now (t .entry)) (now (memory .entry)) q (now (buffer .entry)) (record { target = now (t .exit); answer = r }) (now (buffer .exit)) ⌝ }
+{
+    let r = replied::get(*t, memory, q, buffer);
+    *t = r.target;
+    r.answer
+}
+
+// Takes the oldest event from the queue: EVENT or NONE.
+#[no_mangle]
+pub extern "C" fn gussetreed_read_event(t: &mut Target) -> EventReply
+    ensures { λ r. ⌜ ReadEventTold (now (t .entry)) (record { target = now (t .exit); answer = r }) ⌝ }
+{
+    let r = replied::read_event(*t);
+    *t = r.target;
+    r.answer
+}
+
+// Sets both fields of a counter: DONE.
+#[no_mangle]
+pub extern "C" fn gussetreed_set_counter(t: &mut Target, x: CounterChange) -> Reply
+    ensures { λ r. ⌜ SetCounterTold (now (t .entry)) x (record { target = now (t .exit); answer = r }) ⌝ }
+{
+    let r = replied::set_counter(*t, x);
+    *t = r.target;
+    r.answer
+}
+
+// Adds to both fields of a counter, modulo 2^64: DONE.
+#[no_mangle]
+pub extern "C" fn gussetreed_increment(t: &mut Target, x: CounterChange) -> Reply
+    ensures { λ r. ⌜ IncrementTold (now (t .entry)) x (record { target = now (t .exit); answer = r }) ⌝ }
+{
+    let r = replied::increment(*t, x);
+    *t = r.target;
+    r.answer
+}
+
+// Reads a counter: COUNTER.
+#[no_mangle]
+pub extern "C" fn gussetreed_read_counter(t: &Target, k: u64) -> Reply
+    ensures { λ r. ⌜ ReadCounterTold (now (t .entry)) k r ⌝ }
+{
+    replied::read_counter(*t, k)
+}
+
+// Reads a register, 0 drop, 1 permission, 2 operation: REGISTER.
+#[no_mangle]
+pub extern "C" fn gussetreed_read_register(t: &Target, k: u64) -> Reply
+    ensures { λ r. ⌜ ReadRegisterTold (now (t .entry)) k r ⌝ }
+{
+    replied::read_register(*t, k)
+}
+
+// Tests a counter: READY or NOT_READY.
+#[no_mangle]
+pub extern "C" fn gussetreed_ready(t: &Target, x: CounterTest) -> Reply
+    ensures { λ r. ⌜ ReadyTold (now (t .entry)) x r ⌝ }
+{
+    replied::ready(*t, x)
+}
+
+// Polls a list of counters, each with the test at its place in another list: REACHED or NONE_REACHED.
+#[no_mangle]
+pub extern "C" fn gussetreed_poll(t: &Target, ks: &[u64], tests: &[u64]) -> Reply
+    ensures { λ r. ⌜ PollTold (now (t .entry)) (now (ks .entry)) (now (tests .entry)) r ⌝ }
+{
+    replied::poll(*t, ks, tests)
+}
