@@ -1,4 +1,4 @@
--- The types of the exported calls, as the laws of calls on a lent target take them: the arguments, the replies, and the structs of
+-- The types of the exported calls, as the laws of calls on a lent target take them, beside those of `host`: the reply, and the structs of
 -- target and reply that the calls by value hand back.
 use mathlib.Core.Path.{_≡_, refl, subst, ap}
 use mathlib.Core.List.{[], _∷_}
@@ -10,19 +10,10 @@ use denote.Struct.Declared as S
 use denote.Struct.Struct.{Plains, AreAll}
 use denote.Struct.Values.{intos}
 use denote.Struct.Laws as laws
-use Rattle.thin.proofs.Forms.{Plain, Lendable, Done, struct}
+use Rattle.thin.proofs.Forms.{Plain, Done, struct}
+use Rattle.host.proofs.Types.{target}
 use Rattle.state.proofs.layout.Target as Target
 use Rattle.state.proofs.layout.Target.Laws as Target′
-use Rattle.matching.proofs.layout.Entry as Entry
-use Rattle.matching.proofs.layout.Entry.Laws as Entry′
-use Rattle.matching.proofs.layout.Request as Request
-use Rattle.matching.proofs.layout.Request.Laws as Request′
-use Rattle.state.proofs.layout.Settings as Settings
-use Rattle.state.proofs.layout.Settings.Laws as Settings′
-use Rattle.state.proofs.layout.CounterChange as CounterChange
-use Rattle.state.proofs.layout.CounterChange.Laws as CounterChange′
-use Rattle.state.proofs.layout.CounterTest as CounterTest
-use Rattle.state.proofs.layout.CounterTest.Laws as CounterTest′
 use Rattle.gussetreed.proofs.layout.Reply as Reply
 use Rattle.gussetreed.proofs.layout.Reply.Laws as Reply′
 use Rattle.gussetreed.proofs.layout.EventReply as EventReply
@@ -32,32 +23,12 @@ use Rattle.gussetreed.proofs.replied.Replied.Laws as Replied′
 use Rattle.gussetreed.proofs.replied.EventReplied as EventReplied
 use Rattle.gussetreed.proofs.replied.EventReplied.Laws as EventReplied′
 
--- ## Arguments
-
-abbrev pub entry : Plain
-entry = struct Entry.the-type Entry′.the-laws Entry′.the-plain
-
-abbrev pub request : Plain
-request = struct Request.the-type Request′.the-laws Request′.the-plain
-
-abbrev pub settings : Plain
-settings = struct Settings.the-type Settings′.the-laws Settings′.the-plain
-
-abbrev pub change : Plain
-change = struct CounterChange.the-type CounterChange′.the-laws CounterChange′.the-plain
-
-abbrev pub test : Plain
-test = struct CounterTest.the-type CounterTest′.the-laws CounterTest′.the-plain
-
 -- ## The reply of the calls that only read
 
 abbrev pub reply : Plain
 reply = struct Reply.the-type Reply′.the-laws Reply′.the-plain
 
--- ## The target, and what the calls by value hand back
-
-abbrev pub target : Lendable
-target = record { N = Target.the-type; L = Target′.the-laws; pl = Target′.the-plain; cp = Target′.the-copy }
+-- ## What the calls by value hand back
 
 -- The struct of target and reply, for any struct A of numbers as the reply, and any struct that takes apart into the two and is made of
 -- them.

@@ -1,24 +1,18 @@
--- What crosses to a host: each answer as numbers, and what each exported call promises of its reply and of what it is lent.
+-- What crosses to a host: each answer as numbers, and what each exported call promises.
 use mathlib.Core.Path.{_≡_}
 use mathlib.Core.List.{List}
 use Prim.Native.Nat.{ℕ}
 use Rattle.matching.specs.declared.layout.Entry.{Entry}
 use Rattle.matching.specs.declared.layout.Request.{Request}
-use Rattle.state.specs.View.{View, zeroEvent, emptyTarget}
-use Rattle.state.specs.Soundness.{sound, seen}
+use Rattle.state.specs.View.{zeroEvent}
 use Rattle.state.specs.declared.layout.Settings.{Settings}
 use Rattle.state.specs.declared.layout.CounterChange.{CounterChange}
 use Rattle.state.specs.declared.layout.CounterTest.{CounterTest}
 use Rattle.state.specs.declared.layout.Event.{Event}
 use Rattle.state.specs.declared.layout.Target.{Target}
 use Rattle.portals.specs.Answers.{Answer, REFUSED, MADE, LINKED, TAKEN, DONE, SEARCHED, PRIORITY, OVERFLOW, DROPPED, PERM, OP, EVENT, NONE, COUNTER, REGISTER, READY, NOT-READY, REACHED, NONE-REACHED}
-use Rattle.portals.specs.Outcome.{Outcome, unlessUnsound, readUnlessUnsound}
-use Rattle.portals.specs.Making.{new}
-use Rattle.portals.specs.EventRead.{readEvent}
-use Rattle.portals.specs.CounterCalls.{setCounter, increment, readCounter, readRegister, ready, poll}
-use Rattle.portals.specs.Request.{put, get}
-use Rattle.portals.specs.EarlyMessages.{append, unlink, search}
-use Rattle.portals.specs.Promises.{Met}
+use Rattle.portals.specs.Answers.{newAnswer, appendAnswer, plainAnswer, searchAnswer, requestAnswer, eventAnswer, counterAnswer, registerAnswer, readyAnswer, pollAnswer}
+use Rattle.portals.specs.Promises.{NewMet, AppendMet, UnlinkMet, SearchMet, PutMet, GetMet, ReadEventMet, SetCounterMet, IncrementMet, ReadCounterMet, ReadRegisterMet, ReadyMet, PollMet}
 use Rattle.gussetreed.specs.declared.layout.Reply.{Reply}
 use Rattle.gussetreed.specs.declared.layout.EventReply.{EventReply}
 use Rattle.gussetreed.specs.declared.replied.Replied.{Replied}
@@ -76,59 +70,53 @@ abbrev pub eventReplyOf : Answer → EventReply
 eventReplyOf a = record { answer = replyOf a .answer; code = replyOf a .code; event = eventIn a }
 
 -- ## What a call promises
--- Met and the rest of `portals`, of the answer that the definition gives; and the reply is that answer as numbers.
 
--- the answer that the definition gives of a call on any state
-abbrev pub answerOf : {B : Type 0} → (View → Outcome View B) → Target → B → Answer
-answerOf call t lent = unlessUnsound call (seen t) lent .answer
+-- What the call of its name in `portals` promises, P, holds of some answer, and the reply r is that answer told in numbers. P says which
+-- answer it is, in document 01's words, and `tell` takes these words alone: no other reply is possible.
+pub record Told {A R : Type 0} (tell : A → R) (P : A → Type 0) (r : R) : Type 0 where
+  pub answer : A
+  pub met : P answer
+  pub told : r ≡ tell answer
 
-pub record Told {R B : Type 0} (tell : Answer → R) (call : View → Outcome View B) (t : Target) (lent : B) (r : R) (t′ : Target) (left : B) : Type 0 where
-  pub reply : r ≡ tell (answerOf call t lent)
-  pub met : Met call t lent (answerOf call t lent) t′ left
-
--- a call that only reads
-pub record ReadTold (call : View → Answer) (t : Target) (r : Reply) : Type 0 where
-  pub reply : r ≡ replyOf (readUnlessUnsound call (seen t))
-
-pub record NewTold (s : Settings) (r : Replied) : Type 0 where
-  pub reply : r .answer ≡ replyOf (new s .answer)
-  pub target : r .target ≡ emptyTarget (new s .state .size)
-  pub state : seen (r .target) ≡ sound (new s .state)
+abbrev pub NewTold : Settings → Replied → Type 0
+NewTold s r = Told (λ a. replyOf (newAnswer a)) (λ a. NewMet s (record { target = r .target; answer = a })) (r .answer)
 
 abbrev pub AppendTold : Target → Entry → Replied → Type 0
-AppendTold t e r = Told replyOf (λ v. append v e) t tt (r .answer) (r .target) tt
+AppendTold t e r = Told (λ a. replyOf (appendAnswer a)) (λ a. AppendMet t e (record { target = r .target; answer = a })) (r .answer)
 
 abbrev pub UnlinkTold : Target → ℕ → Replied → Type 0
-UnlinkTold t handle r = Told replyOf (λ v. unlink v handle) t tt (r .answer) (r .target) tt
+UnlinkTold t handle r = Told (λ a. replyOf (plainAnswer a)) (λ a. UnlinkMet t handle (record { target = r .target; answer = a })) (r .answer)
 
 abbrev pub SearchTold : Target → Entry → Replied → Type 0
-SearchTold t e r = Told replyOf (λ v. search v e) t tt (r .answer) (r .target) tt
+SearchTold t e r = Told (λ a. replyOf (searchAnswer a)) (λ a. SearchMet t e (record { target = r .target; answer = a })) (r .answer)
 
 -- the memory before and after
 abbrev pub PutTold : Target → List ℕ → Request → List ℕ → Replied → List ℕ → Type 0
-PutTold t memory q payload r memory′ = Told replyOf (λ v. put v memory q payload) t memory (r .answer) (r .target) memory′
+PutTold t memory q payload r memory′ =
+    Told (λ a. replyOf (requestAnswer a)) (λ a. PutMet t memory q payload (record { target = r .target; answer = a }) memory′) (r .answer)
 
 -- the reply buffer before and after; the memory is lent to be read only
 abbrev pub GetTold : Target → List ℕ → Request → List ℕ → Replied → List ℕ → Type 0
-GetTold t memory q buffer r buffer′ = Told replyOf (λ v. get v memory q buffer) t buffer (r .answer) (r .target) buffer′
+GetTold t memory q buffer r buffer′ =
+    Told (λ a. replyOf (requestAnswer a)) (λ a. GetMet t memory q buffer (record { target = r .target; answer = a }) buffer′) (r .answer)
 
 abbrev pub ReadEventTold : Target → EventReplied → Type 0
-ReadEventTold t r = Told eventReplyOf readEvent t tt (r .answer) (r .target) tt
+ReadEventTold t r = Told (λ a. eventReplyOf (eventAnswer a)) (λ a. ReadEventMet t (record { target = r .target; answer = a })) (r .answer)
 
 abbrev pub SetCounterTold : Target → CounterChange → Replied → Type 0
-SetCounterTold t x r = Told replyOf (λ v. setCounter v x) t tt (r .answer) (r .target) tt
+SetCounterTold t x r = Told (λ a. replyOf (plainAnswer a)) (λ a. SetCounterMet t x (record { target = r .target; answer = a })) (r .answer)
 
 abbrev pub IncrementTold : Target → CounterChange → Replied → Type 0
-IncrementTold t x r = Told replyOf (λ v. increment v x) t tt (r .answer) (r .target) tt
+IncrementTold t x r = Told (λ a. replyOf (plainAnswer a)) (λ a. IncrementMet t x (record { target = r .target; answer = a })) (r .answer)
 
 abbrev pub ReadCounterTold : Target → ℕ → Reply → Type 0
-ReadCounterTold t k r = ReadTold (λ v. readCounter v k) t r
+ReadCounterTold t k r = Told (λ a. replyOf (counterAnswer a)) (ReadCounterMet t k) r
 
 abbrev pub ReadRegisterTold : Target → ℕ → Reply → Type 0
-ReadRegisterTold t k r = ReadTold (λ v. readRegister v k) t r
+ReadRegisterTold t k r = Told (λ a. replyOf (registerAnswer a)) (ReadRegisterMet t k) r
 
 abbrev pub ReadyTold : Target → CounterTest → Reply → Type 0
-ReadyTold t x r = ReadTold (λ v. ready v x) t r
+ReadyTold t x r = Told (λ a. replyOf (readyAnswer a)) (ReadyMet t x) r
 
 abbrev pub PollTold : Target → List ℕ → List ℕ → Reply → Type 0
-PollTold t ks tests r = ReadTold (λ v. poll v ks tests) t r
+PollTold t ks tests r = Told (λ a. replyOf (pollAnswer a)) (PollMet t ks tests) r

@@ -91,7 +91,7 @@ use Rattle.portals.proofs.poll.poll.Reads as core-poll
 
 module _ {M : Type 1} (𝓤 : URA M) (H : Heap 𝓤) (A : Atoms 𝓤) (mem : Memory → SProp 𝓤) (run : Routine → Fun 𝓤) where
   -- A contract that asks nothing, and says P of the answer and of what the parameters are left as.
-  abbrev promises : (T : Ended) (κs : Lfts (T .signature .lifetimes)) (a : Args (T .signature) κs) → (Res (T .signature) κs → AtExit T κs → Type 0) → SpecAt 𝓤 (T .signature) κs
+  abbrev pub promises : (T : Ended) (κs : Lfts (T .signature .lifetimes)) (a : Args (T .signature) κs) → (Res (T .signature) κs → AtExit T κs → Type 0) → SpecAt 𝓤 (T .signature) κs
   promises T κs a P = record { ghost = Unit {0}; requires = λ _. emp 𝓤; ensures = λ _ r. exits 𝓤 H A (T .signature) (T .kept) κs a (λ left. fact 𝓤 (P r left)) }
 
   -- ## The calls that are lent no slice. `left .0` is the target that is left

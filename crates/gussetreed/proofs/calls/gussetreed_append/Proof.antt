@@ -1,7 +1,8 @@
 -- `gussetreed_append` meets its contract, by the law of its form. Assumes nothing.
 use Rattle.thin.proofs.ThinOne.{thin-one}
 use Rattle.gussetreed.specs.Replies.{AppendTold}
-use Rattle.gussetreed.proofs.Types.{replied, entry}
+use Rattle.host.proofs.Types.{entry}
+use Rattle.gussetreed.proofs.Types.{replied}
 use Rattle.gussetreed.proofs.replied.append.Symbol as callee
 use Rattle.gussetreed.proofs.replied.append.Met as callee-met
 use Rattle.gussetreed.proofs.calls.gussetreed_append.Key as key

@@ -1,7 +1,8 @@
 -- `gussetreed_get` meets its contract, by the law of its form. Assumes nothing.
 use Rattle.thin.proofs.ThinGet.{thin-get}
 use Rattle.gussetreed.specs.Replies.{GetTold}
-use Rattle.gussetreed.proofs.Types.{replied, request}
+use Rattle.host.proofs.Types.{request}
+use Rattle.gussetreed.proofs.Types.{replied}
 use Rattle.gussetreed.proofs.replied.get.Symbol as callee
 use Rattle.gussetreed.proofs.replied.get.Met as callee-met
 use Rattle.gussetreed.proofs.calls.gussetreed_get.Key as key

@@ -1,7 +1,8 @@
 -- `gussetreed_increment` meets its contract, by the law of its form. Assumes nothing.
 use Rattle.thin.proofs.ThinOne.{thin-one}
 use Rattle.gussetreed.specs.Replies.{IncrementTold}
-use Rattle.gussetreed.proofs.Types.{replied, change}
+use Rattle.host.proofs.Types.{change}
+use Rattle.gussetreed.proofs.Types.{replied}
 use Rattle.gussetreed.proofs.replied.increment.Symbol as callee
 use Rattle.gussetreed.proofs.replied.increment.Met as callee-met
 use Rattle.gussetreed.proofs.calls.gussetreed_increment.Key as key

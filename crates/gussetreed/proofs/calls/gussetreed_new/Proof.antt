@@ -1,7 +1,8 @@
 -- `gussetreed_new` meets its contract, by the law of its form. Assumes nothing.
 use Rattle.thin.proofs.ThinNew.{thin-new}
 use Rattle.gussetreed.specs.Replies.{NewTold}
-use Rattle.gussetreed.proofs.Types.{replied, settings}
+use Rattle.host.proofs.Types.{settings}
+use Rattle.gussetreed.proofs.Types.{replied}
 use Rattle.gussetreed.proofs.replied.new.Symbol as callee
 use Rattle.gussetreed.proofs.replied.new.Met as callee-met
 use Rattle.gussetreed.proofs.calls.gussetreed_new.Key as key

@@ -2,7 +2,8 @@
 use mir.Syntax.{w64}
 use Rattle.thin.proofs.LookLists.{look-lists}
 use Rattle.gussetreed.specs.Replies.{PollTold}
-use Rattle.gussetreed.proofs.Types.{target, reply}
+use Rattle.host.proofs.Types.{target}
+use Rattle.gussetreed.proofs.Types.{reply}
 use Rattle.gussetreed.proofs.replied.poll.Symbol as callee
 use Rattle.gussetreed.proofs.replied.poll.Met as callee-met
 use Rattle.gussetreed.proofs.calls.gussetreed_poll.Key as key

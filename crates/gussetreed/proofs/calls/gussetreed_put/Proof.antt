@@ -1,7 +1,8 @@
 -- `gussetreed_put` meets its contract, by the law of its form. Assumes nothing.
 use Rattle.thin.proofs.ThinPut.{thin-put}
 use Rattle.gussetreed.specs.Replies.{PutTold}
-use Rattle.gussetreed.proofs.Types.{replied, request}
+use Rattle.host.proofs.Types.{request}
+use Rattle.gussetreed.proofs.Types.{replied}
 use Rattle.gussetreed.proofs.replied.put.Symbol as callee
 use Rattle.gussetreed.proofs.replied.put.Met as callee-met
 use Rattle.gussetreed.proofs.calls.gussetreed_put.Key as key

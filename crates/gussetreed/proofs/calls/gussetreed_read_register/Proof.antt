@@ -3,7 +3,8 @@ use mir.Syntax.{w64}
 use Rattle.thin.proofs.Forms.{number}
 use Rattle.thin.proofs.LookOne.{look-one}
 use Rattle.gussetreed.specs.Replies.{ReadRegisterTold}
-use Rattle.gussetreed.proofs.Types.{target, reply}
+use Rattle.host.proofs.Types.{target}
+use Rattle.gussetreed.proofs.Types.{reply}
 use Rattle.gussetreed.proofs.replied.read_register.Symbol as callee
 use Rattle.gussetreed.proofs.replied.read_register.Met as callee-met
 use Rattle.gussetreed.proofs.calls.gussetreed_read_register.Key as key

@@ -1,7 +1,8 @@
 -- `gussetreed_ready` meets its contract, by the law of its form. Assumes nothing.
 use Rattle.thin.proofs.LookOne.{look-one}
 use Rattle.gussetreed.specs.Replies.{ReadyTold}
-use Rattle.gussetreed.proofs.Types.{target, reply, test}
+use Rattle.host.proofs.Types.{target, test}
+use Rattle.gussetreed.proofs.Types.{reply}
 use Rattle.gussetreed.proofs.replied.ready.Symbol as callee
 use Rattle.gussetreed.proofs.replied.ready.Met as callee-met
 use Rattle.gussetreed.proofs.calls.gussetreed_ready.Key as key

@@ -1,7 +1,8 @@
 -- `gussetreed_search` meets its contract, by the law of its form. Assumes nothing.
 use Rattle.thin.proofs.ThinOne.{thin-one}
 use Rattle.gussetreed.specs.Replies.{SearchTold}
-use Rattle.gussetreed.proofs.Types.{replied, entry}
+use Rattle.host.proofs.Types.{entry}
+use Rattle.gussetreed.proofs.Types.{replied}
 use Rattle.gussetreed.proofs.replied.search.Symbol as callee
 use Rattle.gussetreed.proofs.replied.search.Met as callee-met
 use Rattle.gussetreed.proofs.calls.gussetreed_search.Key as key

@@ -1,7 +1,8 @@
 -- `gussetreed_set_counter` meets its contract, by the law of its form. Assumes nothing.
 use Rattle.thin.proofs.ThinOne.{thin-one}
 use Rattle.gussetreed.specs.Replies.{SetCounterTold}
-use Rattle.gussetreed.proofs.Types.{replied, change}
+use Rattle.host.proofs.Types.{change}
+use Rattle.gussetreed.proofs.Types.{replied}
 use Rattle.gussetreed.proofs.replied.set_counter.Symbol as callee
 use Rattle.gussetreed.proofs.replied.set_counter.Met as callee-met
 use Rattle.gussetreed.proofs.calls.gussetreed_set_counter.Key as key

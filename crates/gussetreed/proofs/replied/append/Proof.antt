@@ -1,5 +1,3 @@
-use Rattle.gussetreed.proofs.Telling.{told}
-use Rattle.gussetreed.specs.Replies.{replyOf}
 use borrow.Author.Needs.{needs}
 use Rattle.gussetreed.proofs.replied.append.Statement.{statement}
 use Rattle.gussetreed.proofs.replied.append.Tie as tie
@@ -11,7 +9,7 @@ append-reply-requires : tie.Need-append-reply-requires
 append-reply-requires c κs = search needs
 
 returns : tie.Need-returns
-returns c = told replyOf (c .before .before .append .ensures) (c .before .append-reply .ensures)
+returns c = record { answer = c .before .before .append .result .answer; met = c .before .before .append .ensures; told = c .before .append-reply .ensures }
 
 pub append-spec : {M : Type 1} → statement M
 append-spec = tie.close (tie.spec append-requires append-reply-requires returns)

@@ -1,5 +1,3 @@
-use Rattle.gussetreed.proofs.Telling.{told}
-use Rattle.gussetreed.specs.Replies.{replyOf}
 use borrow.Author.Needs.{needs}
 use Rattle.gussetreed.proofs.replied.get.Statement.{statement}
 use Rattle.gussetreed.proofs.replied.get.Tie as tie
@@ -14,7 +12,7 @@ same-length : tie.Need-same-length
 same-length c = search needs
 
 returns : tie.Need-returns
-returns c = told replyOf (c .before .before .before .before .get .ensures) (c .before .request-reply .ensures)
+returns c = record { answer = c .before .before .before .before .get .result .answer; met = c .before .before .before .before .get .ensures; told = c .before .request-reply .ensures }
 
 pub get-spec : {M : Type 1} → statement M
 get-spec = tie.close (tie.spec get-requires request-reply-requires same-length returns)

@@ -1,5 +1,3 @@
-use mathlib.Core.Path.{ap, _∙_}
-use Rattle.gussetreed.specs.Replies.{replyOf}
 use borrow.Author.Needs.{needs}
 use Rattle.gussetreed.proofs.replied.new.Statement.{statement}
 use Rattle.gussetreed.proofs.replied.new.Tie as tie
@@ -11,9 +9,7 @@ new-reply-requires : tie.Need-new-reply-requires
 new-reply-requires c κs = search needs
 
 returns : tie.Need-returns
-returns c =
-    let made = c .before .before .new .ensures in
-    record { reply = c .before .new-reply .ensures ∙ ap replyOf (made .answer); target = made .target; state = made .state }
+returns c = record { answer = c .before .before .new .result .answer; met = c .before .before .new .ensures; told = c .before .new-reply .ensures }
 
 pub new-spec : {M : Type 1} → statement M
 new-spec = tie.close (tie.spec new-requires new-reply-requires returns)

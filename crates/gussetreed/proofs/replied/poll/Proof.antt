@@ -1,4 +1,3 @@
-use Rattle.gussetreed.proofs.Telling.{read-told}
 use borrow.Author.Needs.{needs}
 use Rattle.gussetreed.proofs.replied.poll.Statement.{statement}
 use Rattle.gussetreed.proofs.replied.poll.Tie as tie
@@ -10,7 +9,7 @@ poll-reply-requires : tie.Need-poll-reply-requires
 poll-reply-requires c κs = search needs
 
 returns : tie.Need-returns
-returns c = read-told (c .before .poll .ensures) (c .poll-reply .ensures)
+returns c = record { answer = c .before .poll .result; met = c .before .poll .ensures; told = c .poll-reply .ensures }
 
 pub poll-spec : {M : Type 1} → statement M
 poll-spec = tie.close (tie.spec poll-requires poll-reply-requires returns)

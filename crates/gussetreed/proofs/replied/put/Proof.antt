@@ -1,5 +1,3 @@
-use Rattle.gussetreed.proofs.Telling.{told}
-use Rattle.gussetreed.specs.Replies.{replyOf}
 use borrow.Author.Needs.{needs}
 use Rattle.gussetreed.proofs.replied.put.Statement.{statement}
 use Rattle.gussetreed.proofs.replied.put.Tie as tie
@@ -14,7 +12,7 @@ same-length : tie.Need-same-length
 same-length c = search needs
 
 returns : tie.Need-returns
-returns c = told replyOf (c .before .before .before .before .put .ensures) (c .before .request-reply .ensures)
+returns c = record { answer = c .before .before .before .before .put .result .answer; met = c .before .before .before .before .put .ensures; told = c .before .request-reply .ensures }
 
 pub put-spec : {M : Type 1} → statement M
 put-spec = tie.close (tie.spec put-requires request-reply-requires same-length returns)

@@ -1,4 +1,3 @@
-use Rattle.gussetreed.proofs.Telling.{read-told}
 use borrow.Author.Needs.{needs}
 use Rattle.gussetreed.proofs.replied.read_counter.Statement.{statement}
 use Rattle.gussetreed.proofs.replied.read_counter.Tie as tie
@@ -10,7 +9,7 @@ counter-reply-requires : tie.Need-counter-reply-requires
 counter-reply-requires c κs = search needs
 
 returns : tie.Need-returns
-returns c = read-told (c .before .read-counter .ensures) (c .counter-reply .ensures)
+returns c = record { answer = c .before .read-counter .result; met = c .before .read-counter .ensures; told = c .counter-reply .ensures }
 
 pub read-counter-spec : {M : Type 1} → statement M
 read-counter-spec = tie.close (tie.spec read-counter-requires counter-reply-requires returns)

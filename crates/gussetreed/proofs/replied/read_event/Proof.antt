@@ -1,5 +1,3 @@
-use Rattle.gussetreed.proofs.Telling.{told}
-use Rattle.gussetreed.specs.Replies.{eventReplyOf}
 use borrow.Author.Needs.{needs}
 use Rattle.gussetreed.proofs.replied.read_event.Statement.{statement}
 use Rattle.gussetreed.proofs.replied.read_event.Tie as tie
@@ -11,7 +9,7 @@ event-reply-requires : tie.Need-event-reply-requires
 event-reply-requires c κs = search needs
 
 returns : tie.Need-returns
-returns c = told eventReplyOf (c .before .before .read-event .ensures) (c .before .event-reply .ensures)
+returns c = record { answer = c .before .before .read-event .result .answer; met = c .before .before .read-event .ensures; told = c .before .event-reply .ensures }
 
 pub read-event-spec : {M : Type 1} → statement M
 read-event-spec = tie.close (tie.spec read-event-requires event-reply-requires returns)

@@ -1,4 +1,3 @@
-use Rattle.gussetreed.proofs.Telling.{read-told}
 use borrow.Author.Needs.{needs}
 use Rattle.gussetreed.proofs.replied.read_register.Statement.{statement}
 use Rattle.gussetreed.proofs.replied.read_register.Tie as tie
@@ -10,7 +9,7 @@ register-reply-requires : tie.Need-register-reply-requires
 register-reply-requires c κs = search needs
 
 returns : tie.Need-returns
-returns c = read-told (c .before .read-register .ensures) (c .register-reply .ensures)
+returns c = record { answer = c .before .read-register .result; met = c .before .read-register .ensures; told = c .register-reply .ensures }
 
 pub read-register-spec : {M : Type 1} → statement M
 read-register-spec = tie.close (tie.spec read-register-requires register-reply-requires returns)

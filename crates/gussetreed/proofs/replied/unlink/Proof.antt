@@ -1,5 +1,3 @@
-use Rattle.gussetreed.proofs.Telling.{told}
-use Rattle.gussetreed.specs.Replies.{replyOf}
 use borrow.Author.Needs.{needs}
 use Rattle.gussetreed.proofs.replied.unlink.Statement.{statement}
 use Rattle.gussetreed.proofs.replied.unlink.Tie as tie
@@ -11,7 +9,7 @@ plain-reply-requires : tie.Need-plain-reply-requires
 plain-reply-requires c κs = search needs
 
 returns : tie.Need-returns
-returns c = told replyOf (c .before .before .unlink .ensures) (c .before .plain-reply .ensures)
+returns c = record { answer = c .before .before .unlink .result .answer; met = c .before .before .unlink .ensures; told = c .before .plain-reply .ensures }
 
 pub unlink-spec : {M : Type 1} → statement M
 unlink-spec = tie.close (tie.spec unlink-requires plain-reply-requires returns)
