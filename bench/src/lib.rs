@@ -1,0 +1,14 @@
+pub mod layout;
+pub mod calls;
+pub mod plain;
+pub mod script;
+pub mod cases;
+pub mod compare;
+pub mod generate;
+pub mod library;
+pub mod output;
+pub mod planted;
+pub mod program;
+pub mod random;
+pub mod shrink;
+pub mod tally;
