@@ -72,7 +72,8 @@ eventReplyOf a = record { answer = replyOf a .answer; code = replyOf a .code; ev
 -- ## What a call promises
 
 -- What the call of its name in `portals` promises, P, holds of some answer, and the reply r is that answer told in numbers. P says which
--- answer it is, in document 01's words, and `tell` takes these words alone: no other reply is possible.
+-- answer it is, in document 01's words, and `tell` goes by these alone: so the reply is the answer that the call's definition gives
+-- (`by-definition` of proofs/Telling.antt), and no two answers are told alike (`read-back` there).
 pub record Told {A R : Type 0} (tell : A → R) (P : A → Type 0) (r : R) : Type 0 where
   pub answer : A
   pub met : P answer

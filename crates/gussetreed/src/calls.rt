@@ -54,7 +54,7 @@ pub extern "C" fn gussetreed_search(t: &mut Target, e: Entry) -> Reply
     r.answer
 }
 
-// Takes a put: PRIORITY, OVERFLOW, DROPPED, PERM or OP. Only the memory may be written.
+// Takes a put: PRIORITY, OVERFLOW, DROPPED, PERM or OP. Of the slices only the memory may be written.
 #[no_mangle]
 pub extern "C" fn gussetreed_put(
     t: &mut Target,
@@ -69,7 +69,7 @@ pub extern "C" fn gussetreed_put(
     r.answer
 }
 
-// Takes a get: the answers of a put. Only the buffer may be written, from its start on.
+// Takes a get: the answers of a put. Of the slices only the buffer may be written, from its start on.
 #[no_mangle]
 pub extern "C" fn gussetreed_get(
     t: &mut Target,

@@ -7,7 +7,7 @@ use state::layout::Event;
 pub struct Reply {
     // Which answer it is: one of the numbers below.
     pub answer: u32,
-    // REFUSED: the refusal, 1 BAD_STATE to 5 IN_USE. PRIORITY, OVERFLOW, DROPPED, PERM, OP: the ack.
+    // REFUSED: the refusal. PRIORITY, OVERFLOW, DROPPED, PERM, OP: the ack.
     pub code: u32,
     // LINKED: the handle. SEARCHED: how many. PRIORITY, OVERFLOW: the accepted length. COUNTER: its success. REGISTER: its value.
     // REACHED: the place in the list, from 0.
@@ -65,3 +65,14 @@ pub const NOT_READY: u32 = 16;
 pub const REACHED: u32 = 17;
 
 pub const NONE_REACHED: u32 = 18;
+
+// The refusals.
+pub const BAD_STATE: u32 = 1;
+
+pub const BAD_MEMORY: u32 = 2;
+
+pub const ARG_INVALID: u32 = 3;
+
+pub const NO_SPACE: u32 = 4;
+
+pub const IN_USE: u32 = 5;

@@ -2,7 +2,6 @@
 use crate::layout;
 use crate::layout::EventReply;
 use crate::layout::Reply;
-use matching::refusals;
 use matching::refusals::Refusal;
 use portals::answers::AppendAnswer;
 use portals::answers::CounterAnswer;
@@ -16,6 +15,7 @@ use portals::answers::RequestAnswer;
 use portals::answers::SearchAnswer;
 use state::empty;
 ghost use mathlib.Core.Path.{_≡_};
+ghost use Rattle.matching.specs.Refusals.{refusalNumber};
 ghost use Rattle.portals.specs.Answers.{refused, newAnswer, appendAnswer, plainAnswer, searchAnswer, requestAnswer, eventAnswer, counterAnswer, registerAnswer, readyAnswer, pollAnswer};
 ghost use Rattle.gussetreed.specs.Replies.{reply, replyOf, eventReplyOf};
 
@@ -31,11 +31,24 @@ fn reply(answer: u32, code: u32, value: u64, second: u64) -> Reply
     }
 }
 
+// The number of a refusal.
+fn refusal_code(refusal: Refusal) -> u32
+    ensures { λ r. ⌜ r ≡ refusalNumber refusal ⌝ }
+{
+    match refusal {
+        Refusal::BadState => layout::BAD_STATE,
+        Refusal::BadMemory => layout::BAD_MEMORY,
+        Refusal::ArgInvalid => layout::ARG_INVALID,
+        Refusal::NoSpace => layout::NO_SPACE,
+        Refusal::InUse => layout::IN_USE,
+    }
+}
+
 // A refusal gives its number only.
 fn refusal_reply(refusal: Refusal) -> Reply
     ensures { λ r. ⌜ r ≡ replyOf (refused refusal) ⌝ }
 {
-    let n = refusals::refusal_number(refusal);
+    let n = refusal_code(refusal);
     reply(layout::REFUSED, n, 0, 0)
 }
 
@@ -152,7 +165,7 @@ pub fn event_reply(a: EventAnswer) -> EventReply
         },
         EventAnswer::Refused(refusal) => EventReply {
             answer: layout::REFUSED,
-            code: refusals::refusal_number(refusal),
+            code: refusal_code(refusal),
             event: none,
         },
     }

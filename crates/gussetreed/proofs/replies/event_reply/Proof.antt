@@ -24,8 +24,8 @@ enum-told c = search needs
 enum-known-a-2 : tie.Need-enum-known-a-2
 enum-known-a-2 c = search needs
 
-refusal-number-requires : tie.Need-refusal-number-requires
-refusal-number-requires c κs = search needs
+refusal-code-requires : tie.Need-refusal-code-requires
+refusal-code-requires c κs = search needs
 
 returns : tie.Need-returns
 returns c = known (λ a. eventReplyOf (eventAnswer a)) refl (c .before .a .given .1)
@@ -36,7 +36,7 @@ returns-2 c = known (λ a. eventReplyOf (eventAnswer a)) (ap (eventReply 12 0) (
 returns-3 : tie.Need-returns-3
 returns-3 c =
     let none = c .before .before .before .before .zero-event .ensures in
-    known (λ a. eventReplyOf (eventAnswer a)) (ap (λ n. eventReply 0 n (c .before .before .before .before .zero-event .result)) (c .refusal-number .ensures) ∙ ap (eventReply 0 _) none) (c .before .before .a2 .given .1)
+    known (λ a. eventReplyOf (eventAnswer a)) (ap (λ n. eventReply 0 n (c .before .before .before .before .zero-event .result)) (c .refusal-code .ensures) ∙ ap (eventReply 0 _) none) (c .before .before .a2 .given .1)
 
 pub event-reply-spec : {M : Type 1} → statement M
 event-reply-spec =
@@ -46,7 +46,7 @@ event-reply-spec =
     enum-known-a
     enum-told
     enum-known-a-2
-    refusal-number-requires
+    refusal-code-requires
     returns
     returns-2
     returns-3)
