@@ -1,8 +1,8 @@
 /* A host in C: document 01's worked listing, by direct calls on a target that the host keeps and lends.
  *
  * It prints the seven lines of the listing, each from the reply of a call. With --more it goes on with a call that is
- * refused and with the calls that the listing does not have. It compares nothing itself: host.txt and host-more.txt are what
- * it should print, and bin/hosts builds it, runs it and compares.
+ * refused, with the calls that the listing does not have, and with slices of length 0. It compares nothing itself:
+ * host.txt and host-more.txt are what it should print, and bin/hosts builds it, runs it and compares.
  *
  * Exit status: 0 all calls were made; 1 the lines could not be written; 2 wrong usage, or no target was made. */
 #include "gussetreed.h"
@@ -28,8 +28,20 @@ static void number(uint64_t n)
 
 static const char *refusal(uint32_t code)
 {
-    static const char *const names[] = {"?", "BAD_STATE", "BAD_MEMORY", "ARG_INVALID", "NO_SPACE", "IN_USE"};
-    return names[code < 6 ? code : 0];
+    switch (code) {
+    case GUSSETREED_BAD_STATE:
+        return "BAD_STATE";
+    case GUSSETREED_BAD_MEMORY:
+        return "BAD_MEMORY";
+    case GUSSETREED_ARG_INVALID:
+        return "ARG_INVALID";
+    case GUSSETREED_NO_SPACE:
+        return "NO_SPACE";
+    case GUSSETREED_IN_USE:
+        return "IN_USE";
+    default:
+        return "?";
+    }
 }
 
 /* What a reply says, without an end of line. Which of its numbers mean something depends on the answer. */
@@ -124,18 +136,38 @@ static void say_get(gussetreed_reply r, const uint8_t *buffer)
     printf("\n");
 }
 
+static const char *event_kind(uint32_t kind)
+{
+    switch (kind) {
+    case GUSSETREED_EVENT_LINK:
+        return "LINK";
+    case GUSSETREED_EVENT_PUT:
+        return "PUT";
+    case GUSSETREED_EVENT_GET:
+        return "GET";
+    case GUSSETREED_EVENT_PUT_OVERFLOW:
+        return "PUT_OVERFLOW";
+    case GUSSETREED_EVENT_GET_OVERFLOW:
+        return "GET_OVERFLOW";
+    case GUSSETREED_EVENT_SEARCH:
+        return "SEARCH";
+    case GUSSETREED_EVENT_AUTO_UNLINK:
+        return "AUTO_UNLINK";
+    default: /* GUSSETREED_EVENT_AUTO_FREE; any other number is read so too */
+        return "AUTO_FREE";
+    }
+}
+
 /* The line of an event read: the event's fields in document 01's order, then the gap. */
 static void say_event(gussetreed_event_reply r)
 {
-    static const char *const kinds[] = {"LINK",         "PUT",    "GET",         "PUT_OVERFLOW",
-                                        "GET_OVERFLOW", "SEARCH", "AUTO_UNLINK", "AUTO_FREE"};
     const gussetreed_event e = r.event;
 
     if (r.answer != GUSSETREED_EVENT) {
         say((gussetreed_reply){.answer = r.answer, .code = r.code});
         return;
     }
-    printf("%u EVENT %s %s", line++, kinds[e.kind < 7 ? e.kind : 7], e.fail == 0 ? "OK" : "NO_MATCH");
+    printf("%u EVENT %s %s", line++, event_kind(e.kind), e.fail == GUSSETREED_FAIL_OK ? "OK" : "NO_MATCH");
     number(e.portal);
     number(e.list);
     number(e.nid);
@@ -279,6 +311,32 @@ static void others(void)
     say(gussetreed_read_register(&target, 0));
 }
 
+/* A target of size 0, whose memory has length 0. Where the length is 0 the pointer may be NULL. */
+static void nothing(void)
+{
+    static gussetreed_target empty;
+    say(gussetreed_new(&empty, (gussetreed_settings){.size = 0}));
+
+    /* An entry without bytes takes puts and gets. */
+    const gussetreed_entry entry = {
+        .portal = 0,
+        .list = 0, /* priority */
+        .counter = GUSSETREED_NO_COUNTER,
+        .options = GUSSETREED_OP_PUT | GUSSETREED_OP_GET,
+        .uid = GUSSETREED_ANY,
+        .nid = GUSSETREED_ANY,
+        .pid = GUSSETREED_ANY,
+        .user = 11,
+    };
+    say(gussetreed_append(&empty, entry));
+
+    /* No memory, and no payload or buffer; nor counters and tests. */
+    const gussetreed_request q = {.portal = 0, .nid = 1, .pid = 2, .uid = 3};
+    say(gussetreed_put(&empty, NULL, 0, q, NULL, 0));
+    say_get(gussetreed_get(&empty, NULL, 0, q, NULL, 0), NULL);
+    say(gussetreed_poll(&empty, NULL, 0, NULL, 0));
+}
+
 int main(int argc, char **argv)
 {
     const int more = argc == 2 && strcmp(argv[1], "--more") == 0;
@@ -294,7 +352,9 @@ int main(int argc, char **argv)
         return 2;
     }
     listing();
-    if (more)
+    if (more) {
         others();
-    return fflush(stdout) == 0 ? 0 : 1;
+        nothing();
+    }
+    return fflush(stdout) == 0 && !ferror(stdout) ? 0 : 1;
 }

@@ -4,17 +4,18 @@
  *   crates/matching/src/layout.rt
  *   crates/matching/src/entry.rt
  *   crates/state/src/layout.rt
+ *   crates/state/src/kinds.rt
  *   crates/gussetreed/src/layout.rt
  *   crates/gussetreed/src/calls.rt
  * Not to be edited: change the source and run the tool. The library is libgussetreed.a; examples/host.c is a host.
  *
  * What a caller owes. The proofs speak of calls that keep to this, and nothing checks it:
  *
- * - The target pointer points to a whole gussetreed_target, aligned to 8, in memory that was initialised: by
- *   gussetreed_new, which does not read the place that it is lent, or with bytes from elsewhere. Every bit pattern is a
- *   target, and an unsound one is refused BAD_STATE.
- * - A slice is a pointer and, behind it, its length in elements: the pointer has that many. With length 0 it may be any
- *   pointer, NULL too.
+ * - The target pointer points to a whole gussetreed_target, aligned to 8, in memory that was initialised. For
+ *   gussetreed_new alone it need not be: its code does not read the place. Every bit pattern is a target, and every
+ *   other call refuses an unsound one BAD_STATE.
+ * - A slice is a pointer and, behind it, its length in elements: the pointer has that many, all initialised, those of a
+ *   reply buffer too. With length 0 it may be any pointer, NULL too.
  * - No overlap between target, memory, payload and reply buffer.
  * - One thread at a time: while a call runs, nothing else touches what it is lent, no signal handler either.
  * - Enough stack: 256 KiB free.
@@ -258,6 +259,22 @@ typedef struct gussetreed_counter_test {
 } gussetreed_counter_test;
 GUSSETREED_SIZE_IS(gussetreed_counter_test, 16);
 
+/* ---- crates/state/src/kinds.rt */
+
+/* The kinds of a full event. */
+#define GUSSETREED_EVENT_LINK 0u
+#define GUSSETREED_EVENT_PUT 1u
+#define GUSSETREED_EVENT_GET 2u
+#define GUSSETREED_EVENT_PUT_OVERFLOW 3u
+#define GUSSETREED_EVENT_GET_OVERFLOW 4u
+#define GUSSETREED_EVENT_SEARCH 5u
+#define GUSSETREED_EVENT_AUTO_UNLINK 6u
+#define GUSSETREED_EVENT_AUTO_FREE 7u
+
+/* The fail types of a full event. */
+#define GUSSETREED_FAIL_OK 0u
+#define GUSSETREED_FAIL_NO_MATCH 1u
+
 /* ---- crates/gussetreed/src/layout.rt */
 
 /* What a call hands back to a host: unsigned numbers in C's layout, with no padding. What each number means is `replyOf` of the
@@ -267,7 +284,7 @@ GUSSETREED_SIZE_IS(gussetreed_counter_test, 16);
 typedef struct gussetreed_reply {
     /* Which answer it is: one of the numbers below. */
     uint32_t answer;
-    /* REFUSED: the refusal, 1 BAD_STATE to 5 IN_USE. PRIORITY, OVERFLOW, DROPPED, PERM, OP: the ack. */
+    /* REFUSED: the refusal. PRIORITY, OVERFLOW, DROPPED, PERM, OP: the ack. */
     uint32_t code;
     /* LINKED: the handle. SEARCHED: how many. PRIORITY, OVERFLOW: the accepted length. COUNTER: its success. REGISTER: its value.
      * REACHED: the place in the list, from 0. */
@@ -309,6 +326,13 @@ GUSSETREED_SIZE_IS(gussetreed_event_reply, 80);
 #define GUSSETREED_REACHED 17u
 #define GUSSETREED_NONE_REACHED 18u
 
+/* The refusals. */
+#define GUSSETREED_BAD_STATE 1u
+#define GUSSETREED_BAD_MEMORY 2u
+#define GUSSETREED_ARG_INVALID 3u
+#define GUSSETREED_NO_SPACE 4u
+#define GUSSETREED_IN_USE 5u
+
 /* ---- crates/gussetreed/src/calls.rt */
 
 /* Makes a target of a size in a place that its caller lends. What the place held is not read, and is lost: beside a refusal too,
@@ -324,14 +348,14 @@ gussetreed_reply gussetreed_unlink(gussetreed_target *t, uint32_t handle);
 /* Searches the unexpected headers; the entry has the mode, 0 look or 1 delete, in place of the list: SEARCHED. */
 gussetreed_reply gussetreed_search(gussetreed_target *t, gussetreed_entry e);
 
-/* Takes a put: PRIORITY, OVERFLOW, DROPPED, PERM or OP. Only the memory may be written. */
+/* Takes a put: PRIORITY, OVERFLOW, DROPPED, PERM or OP. Of the slices only the memory may be written. */
 gussetreed_reply gussetreed_put(
     gussetreed_target *t,
     uint8_t *memory, size_t memory_length,
     gussetreed_request q,
     const uint8_t *payload, size_t payload_length);
 
-/* Takes a get: the answers of a put. Only the buffer may be written, from its start on. */
+/* Takes a get: the answers of a put. Of the slices only the buffer may be written, from its start on. */
 gussetreed_reply gussetreed_get(
     gussetreed_target *t,
     const uint8_t *memory, size_t memory_length,

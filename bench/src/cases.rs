@@ -2,6 +2,7 @@
 //! read and run again.
 
 use crate::calls::Calls;
+use crate::guarded::{Guarded, GuardedTarget};
 use crate::layout::*;
 use std::fmt::Write;
 
@@ -114,32 +115,54 @@ impl Answer {
     }
 }
 
-/// What one implementation works on.
+/// What one implementation works on, all of it between guards.
 #[derive(Clone)]
 pub struct Side {
-    pub target: Box<Target>,
-    pub memory: Vec<u8>,
+    held: Box<GuardedTarget>,
+    pub memory: Guarded<u8>,
     /// the last get's buffer, else empty
-    pub reply: Vec<u8>,
+    pub reply: Guarded<u8>,
+    payload: Guarded<u8>,
+    ks: Guarded<u64>,
+    tests: Guarded<u64>,
 }
 
 impl Side {
     pub fn new(case: &Case) -> Side {
-        Side { target: case.start.clone(), memory: case.memory.clone(), reply: Vec::new() }
+        let nothing = Guarded::new(&[]);
+        Side {
+            held: GuardedTarget::new(&case.start),
+            memory: Guarded::new(&case.memory),
+            reply: nothing.clone(),
+            payload: nothing,
+            ks: Guarded::new(&[]),
+            tests: Guarded::new(&[]),
+        }
+    }
+
+    pub fn target(&self) -> &Target {
+        &self.held.target
+    }
+
+    pub fn target_mut(&mut self) -> &mut Target {
+        &mut self.held.target
     }
 
     pub fn make<C: Calls>(&mut self, call: &Call) -> Answer {
-        let t = &mut *self.target;
-        self.reply.clear();
+        let t = &mut self.held.target;
+        self.reply.set(&[]);
         Answer::Reply(match call {
             Call::New(s) => C::new(t, *s),
             Call::Append(e) => C::append(t, *e),
             Call::Unlink(handle) => C::unlink(t, *handle),
             Call::Search(e) => C::search(t, *e),
-            Call::Put { lent, q, payload } => C::put(t, &mut self.memory[..*lent], *q, payload),
+            Call::Put { lent, q, payload } => {
+                self.payload.set(payload);
+                C::put(t, &mut self.memory.content_mut()[..*lent], *q, self.payload.content())
+            }
             Call::Get { lent, q, reply } => {
-                self.reply.extend_from_slice(reply);
-                C::get(t, &self.memory[..*lent], *q, &mut self.reply)
+                self.reply.set(reply);
+                C::get(t, &self.memory.content()[..*lent], *q, self.reply.content_mut())
             }
             Call::ReadEvent => return Answer::Event(C::read_event(t)),
             Call::SetCounter(x) => C::set_counter(t, *x),
@@ -147,13 +170,39 @@ impl Side {
             Call::ReadCounter(k) => C::read_counter(t, *k),
             Call::ReadRegister(k) => C::read_register(t, *k),
             Call::Ready(x) => C::ready(t, *x),
-            Call::Poll { ks, tests } => C::poll(t, ks, tests),
+            Call::Poll { ks, tests } => {
+                self.ks.set(ks);
+                self.tests.set(tests);
+                C::poll(t, self.ks.content(), self.tests.content())
+            }
         })
+    }
+
+    /// What is written to that no call may write to: a guard, or a slice that this call was lent to read only.
+    pub fn strayed(&self, call: &Call) -> Option<&'static str> {
+        let guards = [
+            ("the guard of the target", self.held.guards_kept()),
+            ("the guard of the memory", self.memory.guards_kept()),
+            ("the guard of the reply buffer", self.reply.guards_kept()),
+            ("the guard of the payload", self.payload.guards_kept()),
+            ("the guard of the counter numbers", self.ks.guards_kept()),
+            ("the guard of the tests", self.tests.guards_kept()),
+        ];
+        guards.into_iter().chain(self.lent_to_read(call)).find(|(_, kept)| !kept).map(|(name, _)| name)
+    }
+
+    /// The slices that a call is lent to read only, and whether they are as they were; the memory is compared elsewhere.
+    fn lent_to_read(&self, call: &Call) -> [(&'static str, bool); 2] {
+        match call {
+            Call::Put { payload, .. } => [("the payload", self.payload.holds(payload)), ("", true)],
+            Call::Poll { ks, tests } => [("the counter numbers", self.ks.holds(ks)), ("the tests", self.tests.holds(tests))],
+            _ => [("", true); 2],
+        }
     }
 
     pub fn damage(&mut self, damage: &[Damage]) {
         for d in damage {
-            bytes_mut(&mut self.target)[d.at..d.at + d.width].copy_from_slice(&d.value.to_le_bytes()[..d.width]);
+            bytes_mut(self.target_mut())[d.at..d.at + d.width].copy_from_slice(&d.value.to_le_bytes()[..d.width]);
         }
     }
 }
@@ -168,15 +217,12 @@ pub fn bytes_mut(t: &mut Target) -> &mut [u8] {
     unsafe { std::slice::from_raw_parts_mut((t as *mut Target).cast(), size_of::<Target>()) }
 }
 
-/// A target with all numbers 0.
-pub fn zero_target() -> Box<Target> {
-    unsafe { Box::<Target>::new_zeroed().assume_init() }
-}
-
 // ## The text
 
 pub const TITLE: &str = "gussetreed calls";
 const LINE: usize = 32;
+/// The longest memory of a case, far beyond the longest of a target.
+const MEMORY_MOST: usize = 1 << 20;
 
 pub fn hex(v: &[u8]) -> String {
     if v.is_empty() {
@@ -231,6 +277,14 @@ pub fn damage_text(d: &Damage) -> String {
     format!("damage {} {} {}", d.at, d.width, d.value)
 }
 
+impl Step {
+    /// Its lines in a case.
+    pub fn text(&self) -> String {
+        let damage: String = self.damage.iter().map(|d| damage_text(d) + "\n").collect();
+        format!("{damage}{}\n", call_text(&self.call))
+    }
+}
+
 /// Only the lines that are not all 0.
 fn bytes_text(s: &mut String, v: &[u8]) {
     for (i, line) in v.chunks(LINE).enumerate() {
@@ -253,25 +307,23 @@ impl Case {
         bytes_text(&mut s, &self.memory);
         let _ = writeln!(s, "target {}", size_of::<Target>());
         bytes_text(&mut s, bytes(&self.start));
-        for step in &self.steps {
-            for d in &step.damage {
-                let _ = writeln!(s, "{}", damage_text(d));
-            }
-            let _ = writeln!(s, "{}", call_text(&step.call));
-        }
+        s.extend(self.steps.iter().map(Step::text));
         s
     }
 
     pub fn parse(text: &str) -> Result<Case, String> {
-        let mut reader =
-            Reader { case: Case { start: zero_target(), memory: Vec::new(), steps: Vec::new() }, part: Part::None, damage: Vec::new() };
+        let mut reader = Reader::new();
         for (i, line) in text.lines().enumerate() {
             reader.line(i, line.trim()).map_err(|e| format!("line {}: {e}", i + 1))?;
+        }
+        if !reader.damage.is_empty() {
+            return Err("damage behind the last call".to_string());
         }
         Ok(reader.case)
     }
 }
 
+/// Of what the bytes behind `at` are.
 enum Part {
     None,
     Memory,
@@ -282,6 +334,8 @@ struct Reader {
     case: Case,
     part: Part,
     damage: Vec<Damage>,
+    /// the lines `memory` and `target` that are still to come
+    due: Vec<&'static str>,
 }
 
 /// The words of a line behind its first.
@@ -300,10 +354,9 @@ impl<'a> Words<'a> {
         if w == "-" {
             return Ok(Vec::new());
         }
-        if !w.is_ascii() || w.len() % 2 != 0 {
-            return Err("not bytes in hex".to_string());
-        }
-        (0..w.len() / 2).map(|i| u8::from_str_radix(&w[2 * i..2 * i + 2], 16).map_err(|_| "not bytes in hex".to_string())).collect()
+        let digits: Option<Vec<u32>> = w.chars().map(|c| c.to_digit(16)).collect();
+        let digits = digits.filter(|d| d.len() % 2 == 0).ok_or("not bytes in hex")?;
+        Ok(digits.chunks_exact(2).map(|d| (16 * d[0] + d[1]) as u8).collect())
     }
     fn list(&mut self) -> Result<Vec<u64>, String> {
         let w = self.word()?;
@@ -373,6 +426,11 @@ impl<'a> Words<'a> {
 }
 
 impl Reader {
+    fn new() -> Reader {
+        let case = Case { start: zero_target(), memory: Vec::new(), steps: Vec::new() };
+        Reader { case, part: Part::None, damage: Vec::new(), due: vec!["memory", "target"] }
+    }
+
     fn line(&mut self, i: usize, line: &str) -> Result<(), String> {
         if i == 0 {
             return if line == TITLE { Ok(()) } else { Err(format!("not {TITLE}")) };
@@ -394,14 +452,29 @@ impl Reader {
         }
     }
 
+    /// `memory` and `target` stand once, before the calls.
+    fn once(&mut self, name: &str) -> Result<(), String> {
+        if !self.case.steps.is_empty() || !self.damage.is_empty() {
+            return Err(format!("{name} behind a call or damage"));
+        }
+        let i = self.due.iter().position(|due| *due == name).ok_or(format!("{name} a second time"))?;
+        self.due.remove(i);
+        Ok(())
+    }
+
     fn memory(&mut self, words: &mut Words) -> Result<(), String> {
-        let n: u32 = words.number()?;
-        self.case.memory = vec![0; n as usize];
+        self.once("memory")?;
+        let n: usize = words.number()?;
+        if n > MEMORY_MOST {
+            return Err(format!("a memory of {n} bytes; {MEMORY_MOST} are the most"));
+        }
+        self.case.memory = vec![0; n];
         self.part = Part::Memory;
         Ok(())
     }
 
     fn target(&mut self, words: &mut Words) -> Result<(), String> {
+        self.once("target")?;
         let n: usize = words.number()?;
         if n != size_of::<Target>() {
             return Err(format!("a target of {n} bytes; here it has {}", size_of::<Target>()));
@@ -414,7 +487,7 @@ impl Reader {
         let at: usize = words.number()?;
         let v = words.bytes()?;
         let to = match self.part {
-            Part::None => return Err("neither of the memory nor of the target".to_string()),
+            Part::None => return Err("not behind memory or target".to_string()),
             Part::Memory => &mut self.case.memory[..],
             Part::Target => bytes_mut(&mut self.case.start),
         };
@@ -432,12 +505,14 @@ impl Reader {
         if d.at.checked_add(d.width).is_none_or(|end| end > size_of::<Target>()) {
             return Err("beyond the target".to_string());
         }
+        self.part = Part::None;
         self.damage.push(d);
         Ok(())
     }
 
     fn step(&mut self, name: &str, words: &mut Words) -> Result<(), String> {
         let call = words.call(name, self.case.memory.len())?;
+        self.part = Part::None;
         self.case.steps.push(Step { damage: std::mem::take(&mut self.damage), call });
         Ok(())
     }

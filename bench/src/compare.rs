@@ -4,17 +4,27 @@
 //! are the slots that are not in use, where the ring of events begins, and which number stands for a flag that is set. After a
 //! refusal, and after a call that only reads, every byte of the target is as it was; of `new` every byte is compared. Where a call
 //! moved no bytes, memory and reply buffer are as they were.
+//!
+//! The proved side also leaves a sound target unless it refuses, what it is lent to read only as it was, and the guards around all
+//! that it is lent. Beside plain Rust that tests the state runs the one that does not, wherever the state is sound.
 
 use crate::calls::Calls;
 use crate::cases::{bytes, Answer, Call, Case, Side, Step};
 use crate::layout::*;
+use crate::plain::{sound, Trusting};
 
 /// A field's name and value.
 pub type Field = (&'static str, u64);
+/// What each of two is.
+type Names = [&'static str; 2];
 
-fn first(a: &[Field], b: &[Field]) -> Option<String> {
+const SIDES: Names = ["proved", "plain"];
+const UNTESTED: Names = ["trusting", "plain"];
+const TIMES: Names = ["before the call", "after it"];
+
+fn first(a: &[Field], b: &[Field], names: Names) -> Option<String> {
     let (x, y) = a.iter().zip(b).find(|(x, y)| x != y)?;
-    Some(format!("{}: proved {}, plain {}", x.0, x.1, y.1))
+    Some(format!("{}: {} {}, {} {}", x.0, names[0], x.1, names[1], y.1))
 }
 
 fn entry(x: &HeldEntry) -> [Field; 16] {
@@ -91,18 +101,18 @@ fn numbers(t: &Target) -> [Field; 9] {
     ]
 }
 
-fn slots<T, const N: usize>(name: &str, a: &[T], b: &[T], fields: fn(&T) -> [Field; N]) -> Option<String> {
-    a.iter().zip(b).enumerate().find_map(|(i, (x, y))| Some(format!("{name} {i}, {}", first(&fields(x), &fields(y))?)))
+fn slots<T, const N: usize>(name: &str, [a, b]: [&[T]; 2], names: Names, fields: fn(&T) -> [Field; N]) -> Option<String> {
+    a.iter().zip(b).enumerate().find_map(|(i, (x, y))| Some(format!("{name} {i}, {}", first(&fields(x), &fields(y), names)?)))
 }
 
-fn entries(a: &Target, b: &Target) -> Option<String> {
+fn entries(a: &Target, b: &Target, names: Names) -> Option<String> {
     let n = a.entries.count.min(a.entries.slots.len());
-    slots("entry", &a.entries.slots[..n], &b.entries.slots[..n], entry)
+    slots("entry", [&a.entries.slots[..n], &b.entries.slots[..n]], names, entry)
 }
 
-fn headers(a: &Target, b: &Target) -> Option<String> {
+fn headers(a: &Target, b: &Target, names: Names) -> Option<String> {
     let n = a.unexpected.count.min(a.unexpected.slots.len());
-    slots("header", &a.unexpected.slots[..n], &b.unexpected.slots[..n], header)
+    slots("header", [&a.unexpected.slots[..n], &b.unexpected.slots[..n]], names, header)
 }
 
 /// The event at place `i` of the queue, the oldest at 0.
@@ -111,9 +121,9 @@ fn queued(q: &Queue, i: usize) -> &Event {
     &q.slots[(q.head % n + i) % n]
 }
 
-fn events(a: &Queue, b: &Queue) -> Option<String> {
+fn events(a: &Queue, b: &Queue, names: Names) -> Option<String> {
     let n = a.count.min(a.slots.len());
-    (0..n).find_map(|i| Some(format!("queued event {i}, {}", first(&event(queued(a, i)), &event(queued(b, i)))?)))
+    (0..n).find_map(|i| Some(format!("queued event {i}, {}", first(&event(queued(a, i)), &event(queued(b, i)), names)?)))
 }
 
 fn counter(c: &Counter) -> [Field; 2] {
@@ -121,15 +131,15 @@ fn counter(c: &Counter) -> [Field; 2] {
 }
 
 /// The first difference between what two targets hold.
-pub fn targets(a: &Target, b: &Target) -> Option<String> {
+fn targets(a: &Target, b: &Target, names: Names) -> Option<String> {
     if bytes(a) == bytes(b) {
         return None;
     }
-    let found = first(&numbers(a), &numbers(b))
-        .or_else(|| entries(a, b))
-        .or_else(|| headers(a, b))
-        .or_else(|| events(&a.queue, &b.queue))
-        .or_else(|| slots("counter", &a.counters.slots, &b.counters.slots, counter));
+    let found = first(&numbers(a), &numbers(b), names)
+        .or_else(|| entries(a, b, names))
+        .or_else(|| headers(a, b, names))
+        .or_else(|| events(&a.queue, &b.queue, names))
+        .or_else(|| slots("counter", [&a.counters.slots, &b.counters.slots], names, counter));
     Some(format!("target: {}", found?))
 }
 
@@ -137,12 +147,12 @@ fn reply(r: &Reply) -> [Field; 4] {
     [("answer", r.answer.into()), ("code", r.code.into()), ("value", r.value), ("second", r.second)]
 }
 
-fn answers(a: &Answer, b: &Answer) -> Option<String> {
+fn answers(a: &Answer, b: &Answer, names: Names) -> Option<String> {
     let found = match (a, b) {
-        (Answer::Reply(x), Answer::Reply(y)) => first(&reply(x), &reply(y)),
+        (Answer::Reply(x), Answer::Reply(y)) => first(&reply(x), &reply(y), names),
         (Answer::Event(x), Answer::Event(y)) => {
             let head = |r: &EventReply| [("answer", r.answer.into()), ("code", r.code.into())];
-            first(&head(x), &head(y)).or_else(|| first(&event(&x.event), &event(&y.event)))
+            first(&head(x), &head(y), names).or_else(|| first(&event(&x.event), &event(&y.event), names))
         }
         _ => Some("a reply and an event".to_string()),
     };
@@ -150,7 +160,7 @@ fn answers(a: &Answer, b: &Answer) -> Option<String> {
 }
 
 /// The first byte at which two buffers of the same length differ, with what each of them is.
-fn buffers(name: &str, [a, b]: [&[u8]; 2], [is_a, is_b]: [&str; 2]) -> Option<String> {
+fn buffers(name: &str, [a, b]: [&[u8]; 2], [is_a, is_b]: Names) -> Option<String> {
     if a == b {
         return None;
     }
@@ -158,13 +168,19 @@ fn buffers(name: &str, [a, b]: [&[u8]; 2], [is_a, is_b]: [&str; 2]) -> Option<St
     Some(format!("{name}, byte {i}: {is_a} {}, {is_b} {}", a[i], b[i]))
 }
 
-const SIDES: [&str; 2] = ["proved", "plain"];
-const TIMES: [&str; 2] = ["before the call", "after it"];
+/// The first difference between two sides after a call, and their answers.
+fn sides((x, a): (&Side, &Answer), (y, b): (&Side, &Answer), names: Names) -> Option<String> {
+    answers(a, b, names)
+        .or_else(|| targets(x.target(), y.target(), names))
+        .or_else(|| buffers("memory", [x.memory.content(), y.memory.content()], names))
+        .or_else(|| buffers("reply buffer", [x.reply.content(), y.reply.content()], names))
+}
 
 /// The proved and the plain side, with room to remember what they were.
 pub struct Pair {
     pub proved: Side,
     pub plain: Side,
+    trusting: Side,
     before: [Box<Target>; 2],
     memory: Vec<u8>,
     undamaged: Box<Target>,
@@ -172,59 +188,71 @@ pub struct Pair {
 
 impl Pair {
     pub fn new(case: &Case) -> Pair {
-        let room = || case.start.clone();
-        Pair { proved: Side::new(case), plain: Side::new(case), before: [room(), room()], memory: Vec::new(), undamaged: room() }
+        let (room, side) = (|| case.start.clone(), || Side::new(case));
+        let before = [room(), room()];
+        Pair { proved: side(), plain: side(), trusting: side(), before, memory: Vec::new(), undamaged: room() }
     }
 
     /// Makes the call of a step on both sides: their answers, and a difference if there is one.
     pub fn step<A: Calls, B: Calls>(&mut self, step: &Step) -> (Answer, Answer, Option<String>) {
         self.damage(step);
         self.remember();
+        let trusted = self.trusted(step);
         let a = self.proved.make::<A>(&step.call);
         let b = self.plain.make::<B>(&step.call);
-        let found = self.difference(step, &a, &b);
+        let found = self.difference(step, &a, &b).or_else(|| sides((&self.trusting, &trusted?), (&self.plain, &b), UNTESTED));
         if !step.damage.is_empty() && b.is_refusal() {
             self.repair();
         }
         (a, b, found)
     }
 
-    /// Free slots may differ, and damage can bring them into use: so both sides get the same bytes.
+    /// Free slots may differ, and damage can bring them into use: so all sides get the same bytes.
     fn damage(&mut self, step: &Step) {
         if step.damage.is_empty() {
             return;
         }
-        *self.undamaged = *self.plain.target;
-        *self.proved.target = *self.plain.target;
-        self.proved.damage(&step.damage);
+        *self.undamaged = *self.plain.target();
         self.plain.damage(&step.damage);
+        *self.proved.target_mut() = *self.plain.target();
+        *self.trusting.target_mut() = *self.plain.target();
     }
 
     fn repair(&mut self) {
-        *self.proved.target = *self.undamaged;
-        *self.plain.target = *self.undamaged;
+        for side in [&mut self.proved, &mut self.plain, &mut self.trusting] {
+            *side.target_mut() = *self.undamaged;
+        }
     }
 
     fn remember(&mut self) {
-        *self.before[0] = *self.proved.target;
-        *self.before[1] = *self.plain.target;
+        *self.before[0] = *self.proved.target();
+        *self.before[1] = *self.plain.target();
         self.memory.clear();
-        self.memory.extend_from_slice(&self.plain.memory);
+        self.memory.extend_from_slice(self.plain.memory.content());
+    }
+
+    /// The answer of plain Rust that does not test the state. Of an unsound one only `new` is asked of it; the others refuse.
+    fn trusted(&mut self, step: &Step) -> Option<Answer> {
+        let may = matches!(step.call, Call::New(_)) || sound(self.plain.target());
+        may.then(|| self.trusting.make::<Trusting>(&step.call))
     }
 
     fn difference(&self, step: &Step, a: &Answer, b: &Answer) -> Option<String> {
-        answers(a, b)
-            .or_else(|| targets(&self.proved.target, &self.plain.target))
-            .or_else(|| buffers("memory", [&self.proved.memory, &self.plain.memory], SIDES))
-            .or_else(|| buffers("reply buffer", [&self.proved.reply, &self.plain.reply], SIDES))
+        sides((&self.proved, a), (&self.plain, b), SIDES)
             .or_else(|| self.new_bytes(step))
             .or_else(|| self.kept_target(step, b))
             .or_else(|| self.kept_buffers(step, b))
+            .or_else(|| Some(format!("the proved side wrote to {}", self.proved.strayed(&step.call)?)))
+            .or_else(|| self.left_unsound(a))
+    }
+
+    fn left_unsound(&self, a: &Answer) -> Option<String> {
+        (!a.is_refusal() && !sound(self.proved.target())).then(|| "target: the proved side left it unsound".to_string())
     }
 
     fn new_bytes(&self, step: &Step) -> Option<String> {
         match step.call {
-            Call::New(_) => buffers("new target", [bytes(&self.proved.target), bytes(&self.plain.target)], SIDES),
+            Call::New(_) => buffers("new target", [bytes(self.proved.target()), bytes(self.plain.target())], SIDES),
             _ => None,
         }
     }
@@ -234,8 +262,8 @@ impl Pair {
         if !kept {
             return None;
         }
-        buffers("proved target not kept", [bytes(&self.before[0]), bytes(&self.proved.target)], TIMES)
-            .or_else(|| buffers("plain target not kept", [bytes(&self.before[1]), bytes(&self.plain.target)], TIMES))
+        buffers("proved target not kept", [bytes(&self.before[0]), bytes(self.proved.target())], TIMES)
+            .or_else(|| buffers("plain target not kept", [bytes(&self.before[1]), bytes(self.plain.target())], TIMES))
     }
 
     /// Both sides agree here, so one is looked at.
@@ -243,8 +271,8 @@ impl Pair {
         let moved = b.answer() == PRIORITY || b.answer() == OVERFLOW;
         match &step.call {
             Call::Put { .. } if moved => None,
-            Call::Get { reply, .. } if !moved => buffers("reply buffer not kept", [reply, &self.plain.reply], TIMES),
-            _ => buffers("memory not kept", [&self.memory, &self.plain.memory], TIMES),
+            Call::Get { reply, .. } if !moved => buffers("reply buffer not kept", [reply, self.plain.reply.content()], TIMES),
+            _ => buffers("memory not kept", [&self.memory, self.plain.memory.content()], TIMES),
         }
     }
 }

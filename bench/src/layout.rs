@@ -35,3 +35,9 @@ plain_data!(
     Entry, Request, Settings, HeldEntry, Entries, Header, Unexpected, Event, Queue, Counter, Counters, Registers, Target, CounterChange,
     CounterTest, Reply, EventReply
 );
+
+/// A target with all numbers 0, for `new` to write to.
+pub fn zero_target() -> Box<Target> {
+    // it has numbers only
+    unsafe { Box::<Target>::new_zeroed().assume_init() }
+}

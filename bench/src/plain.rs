@@ -5,6 +5,7 @@
 
 #![forbid(unsafe_code)]
 
+use crate::calls::Calls;
 use crate::layout::*;
 
 // The refusals, in the order in which they are tested.
@@ -655,4 +656,46 @@ pub fn poll<const SOUND: bool>(t: &Target, ks: &[u64], tests: &[u64]) -> Reply {
         Some(place) => reply(REACHED, 0, place as u64, 0),
         None => answer(NONE_REACHED),
     }
+}
+
+// ---- All of them together
+
+/// The calls that test the state, or those that do not. None is inlined, so that each can be measured.
+pub struct Rust<const SOUND: bool>;
+
+/// The plain implementation.
+pub type Plain = Rust<true>;
+/// It without the test of the state, for sound states only.
+pub type Trusting = Rust<false>;
+
+macro_rules! not_inlined {
+    ($($name:ident($($x:ident: $t:ty),*) -> $r:ty;)*) => {
+        impl<const SOUND: bool> Calls for Rust<SOUND> {
+            #[inline(never)]
+            fn new(place: &mut Target, s: Settings) -> Reply {
+                new(place, s)
+            }
+            $(
+                #[inline(never)]
+                fn $name($($x: $t),*) -> $r {
+                    $name::<SOUND>($($x),*)
+                }
+            )*
+        }
+    };
+}
+
+not_inlined! {
+    append(t: &mut Target, e: Entry) -> Reply;
+    unlink(t: &mut Target, handle: u32) -> Reply;
+    search(t: &mut Target, e: Entry) -> Reply;
+    put(t: &mut Target, memory: &mut [u8], q: Request, payload: &[u8]) -> Reply;
+    get(t: &mut Target, memory: &[u8], q: Request, reply: &mut [u8]) -> Reply;
+    read_event(t: &mut Target) -> EventReply;
+    set_counter(t: &mut Target, x: CounterChange) -> Reply;
+    increment(t: &mut Target, x: CounterChange) -> Reply;
+    read_counter(t: &Target, k: u64) -> Reply;
+    read_register(t: &Target, k: u64) -> Reply;
+    ready(t: &Target, x: CounterTest) -> Reply;
+    poll(t: &Target, ks: &[u64], tests: &[u64]) -> Reply;
 }

@@ -1,6 +1,6 @@
 //! The plain implementation with an error planted in it, to see that a comparison finds it. The first four are errors seen in real cards.
 
-use crate::calls::{Calls, Plain};
+use crate::calls::Calls;
 use crate::layout::*;
 use crate::plain::*;
 use std::sync::atomic::{AtomicUsize, Ordering};

@@ -177,7 +177,8 @@ fn execute<C: Calls>(size: usize, calls: &[Call<'_>], out: &mut String) {
                 let r = C::get(&mut t, memory, q, &mut buffer[..length]);
                 print(out, &r);
                 if r.answer == PRIORITY || r.answer == OVERFLOW {
-                    print_bytes(out, &buffer[..r.value as usize]);
+                    // a wrong implementation may say that it accepted more than was asked for
+                    print_bytes(out, &buffer[..length.min(r.value as usize)]);
                 }
             }
             Call::ReadEvent => print_event(out, &C::read_event(&mut t)),

@@ -3,7 +3,7 @@
 use std::fs;
 use std::path::Path;
 
-use gussetreed_bench::calls::Plain;
+use gussetreed_bench::plain::Plain;
 use gussetreed_bench::script;
 
 #[test]

@@ -1,23 +1,24 @@
 //! Random calls and scripts, run by the proved library and by plain Rust, and compared.
 
-use gussetreed_bench::calls::{Calls, Plain};
-use gussetreed_bench::cases::{call_text, damage_text, Answer, Case, TITLE};
+use gussetreed_bench::calls::Calls;
+use gussetreed_bench::cases::{call_text, damage_text, Answer, Call, Case, TITLE};
 use gussetreed_bench::compare::{self, Pair};
 use gussetreed_bench::generate::calls::Sequence;
 use gussetreed_bench::generate::scripts::{self, Script};
 use gussetreed_bench::library::Proved;
-use gussetreed_bench::plain::BAD_STATE;
+use gussetreed_bench::plain::{Plain, BAD_STATE};
 use gussetreed_bench::planted::{self, Planted, CALLS_ONLY, PLANTS};
 use gussetreed_bench::program::Program;
 use gussetreed_bench::say;
 use gussetreed_bench::script;
 use gussetreed_bench::shrink::shrink;
 use gussetreed_bench::tally::{Tally, OUTCOMES, REFUSALS};
+use gussetreed_bench::watch::{self, Ended, Folder, Work};
 use std::io::{stderr, IsTerminal, Write};
 use std::path::{Path, PathBuf};
 use std::process::ExitCode;
 use std::time::{Duration, Instant};
-use std::{env, fs};
+use std::{env, fs, io};
 
 const SCRIPTS: u64 = 10_000;
 const CALLS: u64 = 1_000_000;
@@ -25,6 +26,8 @@ const CALLS: u64 = 1_000_000;
 const BATCH: u64 = 200;
 /// So many differences are shown and saved; the others are counted.
 const SHOWN: u64 = 3;
+/// For so long a script is made smaller: the program may hang with each that is tried.
+const PATIENCE: Duration = Duration::from_secs(60);
 
 fn help() -> String {
     let plants: String = PLANTS.iter().map(|(name, what)| format!("  {name:<11} {what}\n")).collect();
@@ -46,13 +49,17 @@ case      a saved case again, with the answers of both sides; or any script file
 {plants}--program FILE  the proved program (if not given, target/bin/vectors, which `rt check vectors` builds)
 --save FOLDER   where a case is saved in which the two differ (if not given, the folder for temporary files)
 
-Exit status: 0 no difference; 1 a difference; 2 wrong usage, or something that is missing.
+The work is done by a child process. If it crashes or panics, or a part of its work takes longer than {} s, the script or the calls
+that it was at are saved, and that is the end of the run.
+
+Exit status: 0 no difference; 1 a difference, a crash or a hang; 2 wrong usage, or something that is missing.
 
 Examples:
   bin/hosts fuzz scripts --count 100000 --seed 7
   bin/hosts fuzz calls --count 5000000
   bin/hosts fuzz calls --count 100000 --plant denied
-"
+",
+        watch::LIMIT.as_secs()
     )
 }
 
@@ -61,7 +68,8 @@ struct Options {
     count: Option<u64>,
     seed: u64,
     plant: Option<String>,
-    program: PathBuf,
+    /// another program than the one in target/
+    program: Option<PathBuf>,
     save: PathBuf,
 }
 
@@ -83,17 +91,16 @@ fn options(mut args: impl Iterator<Item = String>) -> Result<Options, String> {
         Some(other) => return Err(format!("{other}: neither scripts, calls nor case")),
         None => return Err("nothing to do: scripts, calls or case".to_string()),
     };
-    let program = Path::new(env!("CARGO_MANIFEST_DIR")).join("../target/bin/vectors");
-    let mut o = Options { mode, count: None, seed: 1, plant: None, program, save: env::temp_dir() };
+    let mut o = Options { mode, count: None, seed: 1, plant: None, program: None, save: env::temp_dir() };
     while let Some(name) = args.next() {
         let mut value = || args.next().ok_or(format!("{name}: its value is missing"));
-        match name.as_str() {
-            "--count" => o.count = Some(number(&name, &value()?)?),
-            "--seed" => o.seed = number(&name, &value()?)?,
-            "--plant" => o.plant = Some(value()?),
-            "--program" => o.program = PathBuf::from(value()?),
-            "--save" => o.save = PathBuf::from(value()?),
-            _ => return Err(format!("{name}: no such option")),
+        match (name.as_str(), &o.mode) {
+            ("--count", Mode::Scripts | Mode::Calls) => o.count = Some(number(&name, &value()?)?),
+            ("--seed", Mode::Scripts | Mode::Calls) => o.seed = number(&name, &value()?)?,
+            ("--plant", _) => o.plant = Some(value()?),
+            ("--program", Mode::Scripts | Mode::Case(_)) => o.program = Some(PathBuf::from(value()?)),
+            ("--save", Mode::Scripts | Mode::Calls) => o.save = PathBuf::from(value()?),
+            _ => return Err(format!("{name}: no such option here")),
         }
     }
     checked(o)
@@ -115,7 +122,26 @@ impl Options {
     /// The command that repeats it.
     fn again(&self, words: &str) -> String {
         let plant = self.plant.as_ref().map_or(String::new(), |p| format!(" --plant {p}"));
-        format!("Again: bin/hosts fuzz {words}{plant}")
+        let program = self.program.as_ref().map_or(String::new(), |p| format!(" --program {}", p.display()));
+        format!("Again: bin/hosts fuzz {words}{plant}{program}")
+    }
+
+    fn program(&self, work: &Work) -> Result<Program, String> {
+        let built = Path::new(env!("CARGO_MANIFEST_DIR")).join("../target/bin/vectors");
+        Program::new(self.program.as_ref().unwrap_or(&built), &work.folder)
+    }
+
+    fn calls_file(&self, n: u64) -> String {
+        format!("fuzz-calls-{}-{n}.txt", self.seed)
+    }
+
+    fn script_file(&self, n: u64) -> String {
+        format!("fuzz-script-{}-{n}.bin", self.seed)
+    }
+
+    /// Says where a case is.
+    fn saved(&self, path: &Path) {
+        say!("Saved as {}\n{}\n", path.display(), self.again(&format!("case {}", path.display())));
     }
 
     fn save(&self, name: &str, content: &[u8]) -> Result<PathBuf, String> {
@@ -190,13 +216,14 @@ fn cut(line: &str) -> String {
 }
 
 /// Runs a case and prints each call with what both sides answered; whether they differ.
-fn show_case<B: Calls>(case: &Case) -> bool {
+fn show_case<B: Calls>(work: &Work, case: &Case) -> bool {
     let mut pair = Pair::new(case);
     for (i, step) in case.steps.iter().enumerate() {
         for d in &step.damage {
             say!("      {}", damage_text(d));
         }
         say!("{i:>4}  {}", cut(&call_text(&step.call)));
+        work.beat();
         let (a, b, found) = pair.step::<Proved, B>(step);
         let Some(found) = found else {
             say!("      both    {}", answer_text(&a));
@@ -210,14 +237,16 @@ fn show_case<B: Calls>(case: &Case) -> bool {
 }
 
 /// Drops calls, then damage, as long as there is a difference.
-fn shrink_case<B: Calls>(case: &Case) -> Case {
+fn shrink_case<B: Calls>(work: &Work, case: &Case) -> Case {
     let mut small = case.clone();
     let mut tried = case.clone();
     small.steps = shrink(&case.steps, 2_000, |steps| {
+        work.beat();
         tried.steps = steps.to_vec();
         compare::run::<Proved, B>(&tried).is_some()
     });
     for i in 0..small.steps.len() {
+        work.beat();
         let damage = std::mem::take(&mut small.steps[i].damage);
         if compare::run::<Proved, B>(&small).is_none() {
             small.steps[i].damage = damage;
@@ -226,26 +255,29 @@ fn shrink_case<B: Calls>(case: &Case) -> Case {
     small
 }
 
-fn report_case<B: Calls>(o: &Options, n: u64, case: &Case) -> Result<(), String> {
-    let small = shrink_case::<B>(case);
-    say!("Difference in sequence {n} of seed {}, after {} calls; with fewer calls:", o.seed, case.steps.len());
-    show_case::<B>(&small);
-    let path = o.save(&format!("fuzz-calls-{}-{n}.txt", o.seed), small.text().as_bytes())?;
-    say!("Saved as {}\n{}\n", path.display(), o.again(&format!("case {}", path.display())));
+/// The case is shown as it is first, as a smaller one may crash.
+fn report_case<B: Calls>(o: &Options, work: &Work, n: u64, (case, found): &(Case, String)) -> Result<(), String> {
+    let calls = case.steps.len();
+    say!("Difference in sequence {n} of seed {}, in its call {}: {found}", o.seed, calls - 1);
+    let small = shrink_case::<B>(work, case);
+    say!("{}", if small.steps.len() < calls { "With fewer calls:" } else { "All its calls:" });
+    show_case::<B>(work, &small);
+    o.saved(&o.save(&o.calls_file(n), small.text().as_bytes())?);
     Ok(())
 }
 
-fn fuzz_calls<B: Calls>(o: &Options) -> Result<Tally, String> {
+fn fuzz_calls<B: Calls>(o: &Options, work: &Work) -> Result<Tally, String> {
     let count = o.count.unwrap_or(CALLS);
     let mut tally = Tally::default();
     let mut progress = Progress::new("calls");
     while tally.calls < count {
         let n = tally.sequences;
+        work.at(n);
         if let Some(case) = sequence::<B>(o.seed, n, count, &mut tally) {
             tally.differences += 1;
             if tally.differences <= SHOWN {
                 progress.clear();
-                report_case::<B>(o, n, &case)?;
+                report_case::<B>(o, work, n, &case)?;
             }
         }
         tally.sequences += 1;
@@ -257,23 +289,41 @@ fn fuzz_calls<B: Calls>(o: &Options) -> Result<Tally, String> {
     Ok(tally)
 }
 
-/// Runs one sequence; if there is a difference, the case up to it.
-fn sequence<B: Calls>(seed: u64, n: u64, count: u64, tally: &mut Tally) -> Option<Case> {
+/// Runs one sequence; if there is a difference, the case up to it, and the difference.
+fn sequence<B: Calls>(seed: u64, n: u64, count: u64, tally: &mut Tally) -> Option<(Case, String)> {
     let (mut case, mut maker) = Sequence::new(seed, n);
     let mut pair = Pair::new(&case);
     while tally.calls < count {
-        let step = maker.step(&pair.plain.target)?;
-        tally.state(&pair.plain.target);
+        let step = maker.step(pair.plain.target())?;
+        if !matches!(step.call, Call::New(_)) {
+            tally.state(pair.plain.target());
+        }
         let (_, b, found) = pair.step::<Proved, B>(&step);
         tally.call(step.call.number(), &b);
         tally.damaged += u64::from(!step.damage.is_empty());
         tally.unsound += u64::from(!step.damage.is_empty() && b.is_refusal() && b.code() == BAD_STATE);
         case.steps.push(step);
-        if found.is_some() {
-            return Some(case);
+        if let Some(found) = found {
+            return Some((case, found));
         }
     }
     None
+}
+
+/// Runs one sequence again that faulted, and saves each call before it is made, so that the last one saved is the one that faults.
+fn trace<B: Calls>(o: &Options, n: u64) -> Result<bool, String> {
+    let (case, mut maker) = Sequence::new(o.seed, n);
+    let mut pair = Pair::new(&case);
+    let path = o.save(&o.calls_file(n), case.text().as_bytes())?;
+    let failed = |e: io::Error| format!("{}: {e}", path.display());
+    let mut file = fs::File::options().append(true).open(&path).map_err(failed)?;
+    while let Some(step) = maker.step(pair.plain.target()) {
+        file.write_all(step.text().as_bytes()).map_err(failed)?;
+        if pair.step::<Proved, B>(&step).2.is_some() {
+            return Ok(true);
+        }
+    }
+    Ok(false)
 }
 
 // ## Scripts
@@ -321,43 +371,54 @@ impl Printouts {
 }
 
 fn one<B: Calls>(program: &Program, file: Vec<u8>) -> Result<Printouts, String> {
-    let mut printouts = program.printouts(std::slice::from_ref(&file))?;
-    Ok(Printouts::of::<B>(&file, printouts.pop().unwrap_or_default()))
+    let printout = program.printouts(std::slice::from_ref(&file), |_| {})?.concat();
+    Ok(Printouts::of::<B>(&file, printout))
 }
 
-fn shrink_script<B: Calls>(program: &Program, file: &[u8]) -> Vec<u8> {
-    let Some(whole) = Script::of(file) else { return file.to_vec() };
+/// A smaller script with a difference, if there is one.
+fn shrink_script<B: Calls>(work: &Work, program: &Program, file: &[u8]) -> Option<Vec<u8>> {
+    let whole = Script::of(file)?;
     let with = |lines: &[scripts::Line]| Script { lines: lines.to_vec(), ..whole.clone() }.file();
-    let lines = shrink(&whole.lines, 400, |lines| one::<B>(program, with(lines)).is_ok_and(|p| p.differ()));
-    with(&lines)
+    let until = Instant::now() + PATIENCE;
+    let lines = shrink(&whole.lines, 400, |lines| {
+        work.beat();
+        Instant::now() < until && one::<B>(program, with(lines)).is_ok_and(|p| p.differ())
+    });
+    (lines.len() < whole.lines.len()).then(|| with(&lines))
 }
 
-fn report_script<B: Calls>(o: &Options, program: &Program, n: u64, file: &[u8]) -> Result<(), String> {
-    let small = shrink_script::<B>(program, file);
-    say!("Difference in script {n} of seed {}; made smaller, from {} to {} bytes:", o.seed, file.len(), small.len());
-    one::<B>(program, small.clone())?.show();
-    let path = o.save(&format!("fuzz-script-{}-{n}.bin", o.seed), &small)?;
-    say!("Saved as {}\n{}\n", path.display(), o.again(&format!("case {}", path.display())));
+/// The script is shown as it is first, as a smaller one may crash.
+fn report_script<B: Calls>(o: &Options, work: &Work, program: &Program, n: u64, file: &[u8], p: &Printouts) -> Result<(), String> {
+    say!("Difference in script {n} of seed {}, of {} bytes:", o.seed, file.len());
+    p.show();
+    let small = shrink_script::<B>(work, program, file);
+    if let Some(small) = &small {
+        say!("Made smaller, to {} bytes:", small.len());
+        one::<B>(program, small.clone())?.show();
+    }
+    o.saved(&o.save(&o.script_file(n), small.as_deref().unwrap_or(file))?);
     Ok(())
 }
 
-fn fuzz_scripts<B: Calls>(o: &Options) -> Result<Tally, String> {
-    let program = Program::new(&o.program)?;
+fn fuzz_scripts<B: Calls>(o: &Options, work: &Work) -> Result<Tally, String> {
+    let program = o.program(work)?;
     let count = o.count.unwrap_or(SCRIPTS);
     let mut tally = Tally::default();
     let mut progress = Progress::new("scripts");
     let mut done = 0;
     while done < count {
+        work.at(done);
         let files: Vec<_> = (done..count.min(done + BATCH)).map(|n| scripts::script(o.seed, n)).collect();
-        let printouts = program.printouts(&files)?;
+        let printouts = program.printouts(&files, |i| work.at(done + i as u64))?;
         for (file, printout) in files.iter().zip(printouts) {
+            work.at(done);
             let p = Printouts::of::<B>(file, printout);
             tally.script(file, &p.plain);
             if p.differ() {
                 tally.differences += 1;
                 if tally.differences <= SHOWN {
                     progress.clear();
-                    report_script::<B>(o, &program, done, file)?;
+                    report_script::<B>(o, work, &program, done, file, &p)?;
                 }
             }
             done += 1;
@@ -374,8 +435,8 @@ fn fuzz_scripts<B: Calls>(o: &Options) -> Result<Tally, String> {
 
 // ## A saved case
 
-fn show_script<B: Calls>(o: &Options, file: Vec<u8>) -> Result<bool, String> {
-    let p = one::<B>(&Program::new(&o.program)?, file)?;
+fn show_script<B: Calls>(o: &Options, work: &Work, file: Vec<u8>) -> Result<bool, String> {
+    let p = one::<B>(&o.program(work)?, file)?;
     let lines = p.plain.lines().zip(p.program.lines()).zip(p.library.lines());
     for ((line, _), _) in lines.take_while(|((a, b), c)| a == b && a == c) {
         say!("{}", cut(line));
@@ -385,15 +446,17 @@ fn show_script<B: Calls>(o: &Options, file: Vec<u8>) -> Result<bool, String> {
     Ok(p.differ())
 }
 
-fn again<B: Calls>(o: &Options, path: &Path) -> Result<bool, String> {
+fn again<B: Calls>(o: &Options, work: &Work, path: &Path) -> Result<bool, String> {
     let file = fs::read(path).map_err(|e| format!("{}: {e}", path.display()))?;
     if !file.starts_with(TITLE.as_bytes()) {
-        return show_script::<B>(o, file);
+        return show_script::<B>(o, work, file);
     }
     let text = String::from_utf8(file).map_err(|_| format!("{}: not a text", path.display()))?;
     let case = Case::parse(&text).map_err(|e| format!("{}: {e}", path.display()))?;
-    Ok(show_case::<B>(&case))
+    Ok(show_case::<B>(work, &case))
 }
+
+// ## The child and its parent
 
 fn summary(o: &Options, mode: &str, count: u64, tally: &Tally) -> bool {
     say!("  {} differences; seed {}", tally.differences, o.seed);
@@ -401,13 +464,53 @@ fn summary(o: &Options, mode: &str, count: u64, tally: &Tally) -> bool {
     tally.differences != 0
 }
 
-/// Whether there was a difference.
-fn run<B: Calls>(o: &Options) -> Result<bool, String> {
-    match &o.mode {
-        Mode::Scripts => Ok(summary(o, "scripts", o.count.unwrap_or(SCRIPTS), &fuzz_scripts::<B>(o)?)),
-        Mode::Calls => Ok(summary(o, "calls", o.count.unwrap_or(CALLS), &fuzz_calls::<B>(o)?)),
-        Mode::Case(path) => again::<B>(o, path),
+/// The child's work: whether there was a difference.
+fn run<B: Calls>(o: &Options, work: &Work) -> Result<bool, String> {
+    match (&o.mode, work.part) {
+        (Mode::Scripts, _) => Ok(summary(o, "scripts", o.count.unwrap_or(SCRIPTS), &fuzz_scripts::<B>(o, work)?)),
+        (Mode::Calls, None) => Ok(summary(o, "calls", o.count.unwrap_or(CALLS), &fuzz_calls::<B>(o, work)?)),
+        (Mode::Calls, Some(n)) => trace::<B>(o, n),
+        (Mode::Case(path), _) => again::<B>(o, work, path),
     }
+}
+
+/// Says that the child faulted, and saves what it was at.
+fn fault(o: &Options, folder: &Folder, at: u64, how: &str) -> Result<(), String> {
+    if stderr().is_terminal() {
+        let _ = write!(stderr(), "\r\x1b[K");
+    }
+    match &o.mode {
+        Mode::Case(_) => say!("The case {how}"),
+        Mode::Scripts => {
+            say!("Script {at} of seed {} {how}", o.seed);
+            o.saved(&o.save(&o.script_file(at), &scripts::script(o.seed, at))?);
+        }
+        Mode::Calls => {
+            say!("Sequence {at} of seed {} {how}", o.seed);
+            match watch::child(folder, Some(at)).map_err(|e| format!("no child process: {e}"))? {
+                Ended::Fault { .. } => say!("Its last call is the one."),
+                Ended::Status(0 | 1) => say!("A second time it did not."),
+                Ended::Status(_) => return Err("its calls are not saved".to_string()),
+            }
+            o.saved(&o.save.join(o.calls_file(at)));
+        }
+    }
+    Ok(())
+}
+
+fn parent(o: &Options) -> Result<u8, String> {
+    let failed = |e: io::Error| format!("no child process: {e}");
+    let folder = Folder::new().map_err(|e| format!("no temporary folder: {e}"))?;
+    match watch::child(&folder, None).map_err(failed)? {
+        Ended::Status(status) => Ok(status as u8),
+        Ended::Fault { at, how } => fault(o, &folder, at, &how).map(|()| 1),
+    }
+}
+
+fn child(o: &Options, work: &Work) -> Result<u8, String> {
+    let found = if o.plant.is_some() { run::<Planted>(o, work) } else { run::<Plain>(o, work) };
+    work.end();
+    found.map(u8::from)
 }
 
 fn main() -> ExitCode {
@@ -423,9 +526,12 @@ fn main() -> ExitCode {
             return ExitCode::from(2);
         }
     };
-    let found = if o.plant.is_some() { run::<Planted>(&o) } else { run::<Plain>(&o) };
-    match found {
-        Ok(differ) => ExitCode::from(u8::from(differ)),
+    let ended = match Work::given() {
+        None => parent(&o),
+        Some(work) => work.map_err(|e| format!("no note: {e}")).and_then(|work| child(&o, &work)),
+    };
+    match ended {
+        Ok(status) => ExitCode::from(status),
         Err(e) => {
             eprintln!("fuzz: {e}");
             ExitCode::from(2)

@@ -1,10 +1,9 @@
 //! Measures the proved library against plain Rust, in one run.
 
 use gussetreed_bench::calls::Calls;
-use gussetreed_bench::cases::zero_target;
 use gussetreed_bench::layout::*;
 use gussetreed_bench::library::Proved;
-use gussetreed_bench::plain::{self, ANY, NO_COUNTER, OP_GET, OP_PUT, USE_ONCE};
+use gussetreed_bench::plain::{self, Plain, Trusting, ANY, COUNTERS, NO_COUNTER, OP_GET, OP_PUT, USE_ONCE};
 use gussetreed_bench::say;
 use std::hint::black_box;
 use std::process::{exit, ExitCode};
@@ -32,43 +31,10 @@ const SIZE: u32 = 4_096;
 const PAYLOAD: usize = 8;
 /// Match bits that no entry of the setup has.
 const OTHER: u64 = 1 << 40;
-
-// ## The three sides
-
-/// Plain Rust, with or without the test of the state. No call is inlined.
-struct Rust<const SOUND: bool>;
-
-macro_rules! not_inlined {
-    ($($name:ident($($x:ident: $t:ty),*) -> $r:ty;)*) => {
-        impl<const SOUND: bool> Calls for Rust<SOUND> {
-            #[inline(never)]
-            fn new(place: &mut Target, s: Settings) -> Reply {
-                plain::new(place, s)
-            }
-            $(
-                #[inline(never)]
-                fn $name($($x: $t),*) -> $r {
-                    plain::$name::<SOUND>($($x),*)
-                }
-            )*
-        }
-    };
-}
-
-not_inlined! {
-    append(t: &mut Target, e: Entry) -> Reply;
-    unlink(t: &mut Target, handle: u32) -> Reply;
-    search(t: &mut Target, e: Entry) -> Reply;
-    put(t: &mut Target, memory: &mut [u8], q: Request, payload: &[u8]) -> Reply;
-    get(t: &mut Target, memory: &[u8], q: Request, reply: &mut [u8]) -> Reply;
-    read_event(t: &mut Target) -> EventReply;
-    set_counter(t: &mut Target, x: CounterChange) -> Reply;
-    increment(t: &mut Target, x: CounterChange) -> Reply;
-    read_counter(t: &Target, k: u64) -> Reply;
-    read_register(t: &Target, k: u64) -> Reply;
-    ready(t: &Target, x: CounterTest) -> Reply;
-    poll(t: &Target, ks: &[u64], tests: &[u64]) -> Reply;
-}
+/// The mode of a search that deletes nothing.
+const LOOK: u8 = 0;
+/// Every counter, in order.
+const ALL: [u64; COUNTERS] = [0, 1, 2, 3, 4, 5, 6, 7, 8, 9, 10, 11, 12, 13, 14, 15];
 
 // ## What is called
 
@@ -172,16 +138,19 @@ trait Work: Copy {
     fn once<C: Calls>(&self, g: &mut Ground) -> (u32, u32);
 }
 
+/// With a payload of so many bytes.
 #[derive(Clone, Copy)]
 struct Put {
     entries: u64,
     bits: u64,
+    payload: usize,
     answer: u32,
 }
 
 impl Work for Put {
     fn ground(&self) -> Ground {
-        Ground::new().entries(self.entries)
+        let g = Ground::new().entries(self.entries);
+        Ground { buffer: vec![7; self.payload], ..g }
     }
     fn once<C: Calls>(&self, g: &mut Ground) -> (u32, u32) {
         g.no_events();
@@ -231,6 +200,21 @@ impl Work for EarlyTaken {
     }
 }
 
+/// A looking search that none of so many waiting headers fits.
+#[derive(Clone, Copy)]
+struct Look(u64);
+
+impl Work for Look {
+    fn ground(&self) -> Ground {
+        Ground::new().waiting(self.0)
+    }
+    fn once<C: Calls>(&self, g: &mut Ground) -> (u32, u32) {
+        g.no_events();
+        let reply = C::search(black_box(&mut g.target), black_box(entry(1, LOOK, OP_PUT)));
+        (if reply.value == 0 { reply.answer } else { REFUSED }, SEARCHED)
+    }
+}
+
 #[derive(Clone, Copy)]
 struct EventRead;
 
@@ -254,6 +238,31 @@ impl Work for Increment {
     }
     fn once<C: Calls>(&self, g: &mut Ground) -> (u32, u32) {
         (C::increment(black_box(&mut g.target), black_box(CounterChange { counter: 3, success: 1, failure: 0 })).answer, DONE)
+    }
+}
+
+#[derive(Clone, Copy)]
+struct Ready;
+
+impl Work for Ready {
+    fn ground(&self) -> Ground {
+        Ground::new()
+    }
+    fn once<C: Calls>(&self, g: &mut Ground) -> (u32, u32) {
+        (C::ready(black_box(&g.target), black_box(CounterTest { counter: 3, test: 1 })).answer, NOT_READY)
+    }
+}
+
+/// Over all counters; none has reached its test.
+#[derive(Clone, Copy)]
+struct Poll;
+
+impl Work for Poll {
+    fn ground(&self) -> Ground {
+        Ground::new()
+    }
+    fn once<C: Calls>(&self, g: &mut Ground) -> (u32, u32) {
+        (C::poll(black_box(&g.target), black_box(&ALL), black_box(&[1; COUNTERS])).answer, NONE_REACHED)
     }
 }
 
@@ -325,16 +334,19 @@ struct Row {
 }
 
 fn row<W: Work + 'static>(name: impl Into<String>, work: W) -> Row {
-    let sides = [timed::<W, Proved>(work), timed::<W, Rust<true>>(work), timed::<W, Rust<false>>(work)];
+    let sides = [timed::<W, Proved>(work), timed::<W, Plain>(work), timed::<W, Trusting>(work)];
     Row { name: name.into(), sides: sides.map(Some) }
 }
 
 fn rows() -> Vec<Row> {
     let mut all = Vec::new();
     for depth in [1, 16, 63] {
-        all.push(row(format!("put, entry {depth} of {depth} matches"), Put { entries: depth, bits: depth, answer: PRIORITY }));
+        let work = Put { entries: depth, bits: depth, payload: PAYLOAD, answer: PRIORITY };
+        all.push(row(format!("put, entry {depth} of {depth} matches"), work));
     }
-    all.push(row("put, none of 63 entries matches: dropped", Put { entries: 63, bits: OTHER, answer: DROPPED }));
+    all.push(row("put, none of 63 entries matches: dropped", Put { entries: 63, bits: OTHER, payload: PAYLOAD, answer: DROPPED }));
+    let full = Put { entries: 1, bits: 1, payload: SIZE as usize, answer: PRIORITY };
+    all.push(row(format!("put of {SIZE} bytes, entry 1 of 1 matches"), full));
     for depth in [1, 16, 63] {
         all.push(row(format!("get, entry {depth} of {depth} matches"), Get(depth)));
     }
@@ -344,8 +356,13 @@ fn rows() -> Vec<Row> {
     for others in [0, 31] {
         all.push(row(format!("put to overflow and append that takes it, {others} other headers"), EarlyTaken(others)));
     }
+    for waiting in [0, 31] {
+        all.push(row(format!("search that looks, none of {waiting} headers fits"), Look(waiting)));
+    }
     all.push(row("event read, 32 queued", EventRead));
     all.push(row("counter increment, empty target", Increment));
+    all.push(row("ready, empty target: not ready", Ready));
+    all.push(row("poll over 16 counters, empty target: none reached", Poll));
     for (name, entries, waiting) in [("empty target", 0, false), ("63 entries", 63, false), ("63 entries, 32 headers", 63, true)] {
         let work = RegisterRead { entries, waiting };
         all.push(row(format!("register read, {name}"), work));
@@ -396,9 +413,12 @@ fn processor() -> String {
 fn head() -> String {
     format!(
         "Nanoseconds, the median of {ROUNDS} rounds of about {} ms; in each round the three sides come in turn. A row of two calls has\n\
-         the time of both. Memory of {SIZE} bytes, payload and reply buffer of {PAYLOAD}; all entries are in one portal; events are enabled.\n\
-         Before each call the harness sets the event queue empty (head and count to 0; for the event read count to 32). This is in the\n\
-         timed part, the same for all sides. Nothing else is reset.\n\
+         the time of both. Memory of {SIZE} bytes; payload and reply buffer of {PAYLOAD}, unless the row says another length. All entries\n\
+         are in one portal, and their events enabled.\n\
+         What the harness resets, in the timed part and the same for all sides: before a put, a get or a search, and before the first call\n\
+         of a row of two, the event queue is set empty (head and count to 0); before an event read it is set to 32 events (head to 0,\n\
+         count to 32). Before the calls of the other rows nothing is reset. No row resets anything else: handles, registers and the\n\
+         counter go on from call to call.\n\
          \"testing\": plain Rust that tests the whole state first, as the proved library does. \"trusting\": plain Rust that does not.\n\
          Processor: {}. Plain Rust by {}, optimised.\n",
         ROUND.as_millis(),

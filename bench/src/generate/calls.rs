@@ -1,7 +1,7 @@
 //! Random direct calls: a target to start with, and steps that look at what the target holds.
 
 use super::Chooser;
-use crate::cases::{bytes, bytes_mut, zero_target, Call, Case, Damage, Step};
+use crate::cases::{bytes, bytes_mut, Call, Case, Damage, Step};
 use crate::layout::*;
 use crate::plain::*;
 use crate::random::Random;
@@ -184,7 +184,8 @@ impl Chooser {
         e.portal = h.portal;
         e.matchbits = h.matchbits ^ (self.r.word() & e.ignorebits);
         for (id, its) in [(&mut e.nid, h.nid), (&mut e.pid, h.pid), (&mut e.uid, h.uid)] {
-            *id = self.r.pick(&[its, its, ANY]);
+            // any in a header is no any: an entry that asks for another identity does not match it
+            *id = if its == ANY { self.r.pick(&[1, ANY]) } else { self.r.pick(&[its, its, ANY]) };
         }
         if !self.r.one_in(6) {
             e.options |= OP_PUT | OP_GET;
@@ -192,17 +193,26 @@ impl Chooser {
         true
     }
 
+    /// A portal that does not fit in a byte, now and then.
+    fn long_portal(&mut self, e: &mut Entry) {
+        if self.r.one_in(200) {
+            e.portal = self.r.pick(&[256, 256 + e.portal % 256, u16::MAX]);
+        }
+    }
+
     fn appended_to(&mut self, t: &Target) -> Entry {
         let mut e = self.appended(t.size.min(MEMORY_MAX));
         if self.fit(t, &mut e) && !self.r.one_in(4) {
             e.list = 0;
         }
+        self.long_portal(&mut e);
         e
     }
 
     fn searched_in(&mut self, t: &Target) -> Entry {
         let mut e = self.searched(t.size.min(MEMORY_MAX));
         self.fit(t, &mut e);
+        self.long_portal(&mut e);
         e
     }
 
@@ -300,7 +310,13 @@ impl Chooser {
     }
 
     fn header(&mut self, x: &HeldEntry, size: u32) -> Header {
-        let q = self.request(size);
+        let mut q = self.request(size);
+        // no request that is let in has them, but a sound header may
+        for id in [&mut q.nid, &mut q.pid, &mut q.uid] {
+            if self.r.one_in(12) {
+                *id = ANY;
+            }
+        }
         let e = &x.entry;
         let at = self.r.below(u64::from(e.length) + 1) as u32;
         let room = e.length - at;
@@ -356,7 +372,7 @@ const ENTRY_FIELDS: [(usize, usize); 16] = [
     (offset_of!(HeldEntry, entry.ignorebits), 8),
 ];
 
-const HEADER_FIELDS: [(usize, usize); 8] = [
+const HEADER_FIELDS: [(usize, usize); 10] = [
     (offset_of!(Header, handle), 4),
     (offset_of!(Header, portal), 2),
     (offset_of!(Header, kind), 2),
@@ -364,6 +380,8 @@ const HEADER_FIELDS: [(usize, usize); 8] = [
     (offset_of!(Header, place), 4),
     (offset_of!(Header, accepted), 4),
     (offset_of!(Header, requested), 4),
+    (offset_of!(Header, nid), 4),
+    (offset_of!(Header, pid), 4),
     (offset_of!(Header, uid), 4),
 ];
 

@@ -7,6 +7,13 @@ use crate::random::Random;
 const FILE_MAX: usize = 32_768;
 const CALLS_MAX: usize = 1_024;
 const MEMORY_MAX: u32 = 16_384;
+/// The file's head, a line of its contents, and the body of a request without payload.
+const HEAD: usize = 8;
+const LINE: usize = 8;
+const REQUEST: usize = 48;
+/// The calls with short bodies, by their numbers in `cases::NAMES`, and their longest.
+const SHORT: [usize; 6] = [2, 6, 7, 8, 9, 10];
+const SHORT_MAX: usize = 17;
 
 /// A call of a script: its kind, and its body.
 #[derive(Clone)]
@@ -116,6 +123,10 @@ impl Maker {
 
     fn put(&mut self) -> Vec<u8> {
         let n = self.c.length(self.memory.min(2_000));
+        self.put_of(n)
+    }
+
+    fn put_of(&mut self, n: usize) -> Vec<u8> {
         let q = self.c.request(self.memory);
         let mut b = request_body(&q, n as u32);
         b.extend(self.c.r.bytes(n));
@@ -123,7 +134,8 @@ impl Maker {
     }
 
     fn get(&mut self) -> Vec<u8> {
-        let n = self.c.length(self.memory.min(MEMORY_MAX - 1));
+        let longest = self.c.r.one_in(30);
+        let n = if longest { MEMORY_MAX as usize } else { self.c.length(self.memory.min(MEMORY_MAX - 1)) };
         let q = Request { ack: 0, hdrdata: 0, ..self.c.request(self.memory) };
         request_body(&q, n as u32)
     }
@@ -158,26 +170,83 @@ fn calls(r: &mut Random) -> usize {
     }
 }
 
-/// A good script.
-pub fn good(mut r: Random) -> Script {
-    let memory = r.pick(&[0, 1, 16, 16, 64, 64, 256, 1_000, 4_096, MEMORY_MAX]);
-    let count = calls(&mut r);
-    let mut maker = Maker { c: Chooser::new(r), memory, appended: 0 };
-    let mut lines: Vec<Line> = Vec::new();
-    let mut length = 8;
-    // up to 70 event reads at the end show what is queued
-    let reads = if maker.c.r.one_in(2) { maker.c.r.index(70).min(CALLS_MAX - count) } else { 0 };
-    while lines.len() < count {
-        let number = maker.c.kind();
-        let line = maker.line(number);
-        length += 8 + line.body.len();
-        if length + 8 * reads > FILE_MAX {
-            break;
+impl Maker {
+    fn new(mut r: Random) -> Maker {
+        let memory = r.pick(&[0, 1, 16, 16, 64, 64, 256, 1_000, 4_096, MEMORY_MAX]);
+        Maker { c: Chooser::new(r), memory, appended: 0 }
+    }
+
+    fn any_line(&mut self) -> Line {
+        let number = self.c.kind();
+        self.line(number)
+    }
+
+    /// Up to so many calls, as long as a file has room for them and `spare` bytes more.
+    fn lines(&mut self, count: usize, spare: usize) -> Vec<Line> {
+        let mut lines = Vec::new();
+        let mut length = HEAD + spare;
+        while lines.len() < count {
+            let line = self.any_line();
+            length += LINE + line.body.len();
+            if length > FILE_MAX {
+                break;
+            }
+            lines.push(line);
         }
+        lines
+    }
+
+    fn script(self, lines: Vec<Line>) -> Script {
+        Script { memory: self.memory, lines }
+    }
+}
+
+/// A good script. Up to 70 event reads at its end show what is queued.
+pub fn good(mut r: Random) -> Script {
+    let count = calls(&mut r);
+    let mut maker = Maker::new(r);
+    let reads = if maker.c.r.one_in(2) { maker.c.r.index(70).min(CALLS_MAX - count) } else { 0 };
+    let mut lines = maker.lines(count, LINE * reads);
+    lines.extend((0..reads).map(|_| Line { kind: 5, body: Vec::new() }));
+    maker.script(lines)
+}
+
+/// Just so many calls. Their bodies are short once longer ones would leave no room for the others.
+fn long(r: Random, count: usize) -> Script {
+    let mut maker = Maker::new(r);
+    let mut lines: Vec<Line> = Vec::new();
+    let mut room = FILE_MAX - HEAD - count * (LINE + SHORT_MAX);
+    while lines.len() < count {
+        let mut line = maker.any_line();
+        if line.body.len() > room + SHORT_MAX {
+            let number = maker.c.r.pick(&SHORT);
+            line = maker.line(number);
+        }
+        room = room + SHORT_MAX - line.body.len();
         lines.push(line);
     }
-    lines.extend((0..reads).map(|_| Line { kind: 5, body: Vec::new() }));
-    Script { memory, lines }
+    maker.script(lines)
+}
+
+/// A file of just so many bytes: a last put fills it.
+fn full(mut r: Random, size: usize) -> Script {
+    let count = calls(&mut r).min(CALLS_MAX - 1);
+    let mut maker = Maker::new(r);
+    let mut lines = maker.lines(count, LINE + REQUEST);
+    let length: usize = lines.iter().map(|l| LINE + l.body.len()).sum();
+    let body = maker.put_of(size - HEAD - length - LINE - REQUEST);
+    lines.push(Line { kind: 3, body });
+    maker.script(lines)
+}
+
+/// A script at a limit of the calls or of the file, or beyond it by one.
+fn at_limit(mut r: Random) -> Script {
+    match r.below(4) {
+        0 => long(r, CALLS_MAX),
+        1 => long(r, CALLS_MAX + 1),
+        2 => full(r, FILE_MAX),
+        _ => full(r, FILE_MAX + 1),
+    }
 }
 
 // ## Damage
@@ -272,12 +341,12 @@ pub fn damaged(mut r: Random) -> Vec<u8> {
     file
 }
 
-/// Script `n` of a run: good ones and damaged ones.
+/// Script `n` of a run: good ones, damaged ones, and some at a limit.
 pub fn script(seed: u64, n: u64) -> Vec<u8> {
     let mut r = Random::part(seed, n);
-    if r.below(3) < 2 {
-        good(r).file()
-    } else {
-        damaged(r)
+    match r.below(30) {
+        0 => at_limit(r).file(),
+        1..=19 => good(r).file(),
+        _ => damaged(r),
     }
 }
