@@ -151,6 +151,13 @@ impl Options {
     }
 }
 
+/// Takes the line of progress from a terminal.
+fn clear_line() {
+    if stderr().is_terminal() {
+        let _ = write!(stderr(), "\r\x1b[K");
+    }
+}
+
 /// The line on standard error that says how far a run is.
 struct Progress {
     start: Instant,
@@ -176,12 +183,6 @@ impl Progress {
             true => write!(stderr(), "\r\x1b[K{line}"),
             false => writeln!(stderr(), "{line}"),
         };
-    }
-
-    fn clear(&self) {
-        if self.terminal {
-            let _ = write!(stderr(), "\r\x1b[K");
-        }
     }
 
     fn rate(&self, done: u64) -> f64 {
@@ -276,14 +277,14 @@ fn fuzz_calls<B: Calls>(o: &Options, work: &Work) -> Result<Tally, String> {
         if let Some(case) = sequence::<B>(o.seed, n, count, &mut tally) {
             tally.differences += 1;
             if tally.differences <= SHOWN {
-                progress.clear();
+                clear_line();
                 report_case::<B>(o, work, n, &case)?;
             }
         }
         tally.sequences += 1;
         progress.show(tally.calls, tally.differences);
     }
-    progress.clear();
+    clear_line();
     say!("{} calls in {} sequences, {:.0} a second", tally.calls, tally.sequences, progress.rate(tally.calls));
     say!("{}{}", tally.states(), tally.table(false).trim_end());
     Ok(tally)
@@ -417,7 +418,7 @@ fn fuzz_scripts<B: Calls>(o: &Options, work: &Work) -> Result<Tally, String> {
             if p.differ() {
                 tally.differences += 1;
                 if tally.differences <= SHOWN {
-                    progress.clear();
+                    clear_line();
                     report_script::<B>(o, work, &program, done, file, &p)?;
                 }
             }
@@ -425,7 +426,7 @@ fn fuzz_scripts<B: Calls>(o: &Options, work: &Work) -> Result<Tally, String> {
         }
         progress.show(done, tally.differences);
     }
-    progress.clear();
+    clear_line();
     say!("{done} scripts, {:.0} a second", progress.rate(done));
     say!("  {} good, {} bad by their head, {} by a call", tally.good_scripts, tally.bad_heads, tally.bad_calls);
     say!("  {} calls in the good ones:", tally.calls);
@@ -476,9 +477,7 @@ fn run<B: Calls>(o: &Options, work: &Work) -> Result<bool, String> {
 
 /// Says that the child faulted, and saves what it was at.
 fn fault(o: &Options, folder: &Folder, at: u64, how: &str) -> Result<(), String> {
-    if stderr().is_terminal() {
-        let _ = write!(stderr(), "\r\x1b[K");
-    }
+    clear_line();
     match &o.mode {
         Mode::Case(_) => say!("The case {how}"),
         Mode::Scripts => {
