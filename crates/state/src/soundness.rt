@@ -15,20 +15,36 @@ use matching::early_messages;
 use matching::entry;
 use matching::refusals;
 ghost use mathlib.Core.Path.{_≡_};
-ghost use Prim.Native.Nat.{_<_};
+ghost use mathlib.Core.Bool.{cond};
+ghost use Prim.Native.Nat.{_+_, _-_, _%_, _<_};
+ghost use Rattle.state.specs.Sizes.{SLOTS};
 ghost use Rattle.state.specs.Lists.{every, nextPlace};
 ghost use Rattle.state.specs.View.{entriesOf, headersOf};
 ghost use Rattle.state.specs.Soundness.{distinct, entrySound, holds, lengthsKept, headerSound, keepsSlot, countsKept, isSound};
-ghost use Rattle.state.specs.Parts.{EntriesFit, UnexpectedFit, TargetFits, ScanTells, Tested};
+ghost use Rattle.state.specs.Parts.{EntriesFit, UnexpectedFit, TargetFits, ScanTells, Scanned, scanMore, Passing, passMore, Tested};
 
-// What one pass over the entries tells.
-pub struct EntriesScan {
+// What a pass over the entries has told of those that it has seen.
+pub struct Scan {
+    // The counts are within the sizes. If they are not, no entry is seen.
+    pub kept: bool,
+    // The target's, which each entry is tested by.
+    pub size: u32,
+    pub last: u32,
+    // The handle of the entry seen last.
+    pub highest: u32,
     // Each alone is sound.
     pub sound: bool,
     // Each handle is above the one before it, the first above 0: so they are distinct.
     pub ascend: bool,
     // None is retired.
     pub linked: bool,
+}
+
+// A pass over the entries: how many are still to be seen, and the place of the next.
+pub struct Pass {
+    pub left: usize,
+    pub at: usize,
+    pub scan: Scan,
 }
 
 // One entry, linked or retired: its handle was given, it passes append's tests, and its local offset is at most its
@@ -44,28 +60,44 @@ fn entry_sound(x: HeldEntry, size: u32, last: u32) -> bool
     given & good & ((x.local <= e.length) & (managed | (x.local == 0)))
 }
 
-// One pass over the entries.
-fn entries_scanned(es: Entries, size: u32, last: u32) -> EntriesScan
-    requires { ⌜ EntriesFit es ⌝ }
-    ensures { λ r. ⌜ ScanTells (entriesOf es) size last r ⌝ }
+// The counts are within the sizes.
+fn counts_kept(t: Target) -> bool
+    ensures { λ r. ⌜ Tested countsKept t r ⌝ }
 {
-    let mut sound = true;
-    let mut ascend = true;
-    let mut linked = true;
-    let mut highest: u32 = 0;
-    let mut i: usize = 0;
-    while i < es.count {
-        let x = es.slots[i];
-        sound = sound & entry_sound(x, size, last);
-        ascend = ascend & (highest < x.handle);
-        linked = linked & (x.retired == 0);
-        highest = x.handle;
-        i += 1;
+    (t.entries.count <= sizes::SLOTS)
+        & (t.unexpected.count <= sizes::HEADERS)
+        & (t.queue.count <= sizes::EVENTS)
+}
+
+// Before the first entry is seen.
+pub fn scan_begun(t: Target) -> Scan
+    ensures { λ r. ⌜ Scanned t r 0 ⌝ }
+{
+    let kept = counts_kept(t);
+    Scan {
+        kept,
+        size: t.size,
+        last: t.last,
+        highest: 0,
+        sound: true,
+        ascend: true,
+        linked: true,
     }
-    EntriesScan {
-        sound,
-        ascend,
-        linked,
+}
+
+// One more entry is seen.
+pub fn scan_more(s: Scan, x: HeldEntry) -> Scan
+    ensures { λ r. ⌜ r ≡ scanMore s x ⌝ }
+{
+    let sound = entry_sound(x, s.size, s.last);
+    Scan {
+        kept: s.kept,
+        size: s.size,
+        last: s.last,
+        highest: x.handle,
+        sound: s.sound & sound,
+        ascend: s.ascend & (s.highest < x.handle),
+        linked: s.linked & (x.retired == 0),
     }
 }
 
@@ -92,7 +124,7 @@ fn pairs_differ(es: Entries) -> bool
 }
 
 // No two entries have the same handle. All pairs are compared only where the handles do not ascend.
-fn handles_distinct(t: Target, scan: EntriesScan) -> bool
+fn handles_distinct(t: Target, scan: Scan) -> bool
     requires { ⌜ TargetFits t ⌝ }
     requires { ⌜ ScanTells (entriesOf (t .entries)) (t .size) (t .last) scan ⌝ }
     ensures { λ r. ⌜ r ≡ distinct (entriesOf (t .entries)) ⌝ }
@@ -214,7 +246,7 @@ fn slots_kept_in(es: Entries, us: Unexpected) -> bool
 }
 
 // Every entry keeps its slot. Nothing is looked for where none is retired.
-fn slots_kept(t: Target, scan: EntriesScan) -> bool
+fn slots_kept(t: Target, scan: Scan) -> bool
     requires { ⌜ TargetFits t ⌝ }
     requires { ⌜ ScanTells (entriesOf (t .entries)) (t .size) (t .last) scan ⌝ }
     ensures { λ r. ⌜ r ≡ every (keepsSlot (headersOf (t .unexpected))) (entriesOf (t .entries)) ⌝ }
@@ -227,26 +259,74 @@ fn slots_kept(t: Target, scan: EntriesScan) -> bool
     slots_kept_in(es, us)
 }
 
-// The counts are within the sizes.
-fn counts_kept(t: Target) -> bool
-    ensures { λ r. ⌜ Tested countsKept t r ⌝ }
+// The state is sound, by a pass that has seen every entry.
+pub fn scan_sound(t: Target, s: Scan) -> bool
+    requires { ⌜ Scanned t s (t .entries .count) ⌝ }
+    ensures { λ r. ⌜ Tested isSound t r ⌝ }
 {
-    (t.entries.count <= sizes::SLOTS)
-        & (t.unexpected.count <= sizes::HEADERS)
-        & (t.queue.count <= sizes::EVENTS)
+    if !s.kept {
+        return false;
+    }
+    let distinct = handles_distinct(t, s);
+    let headers = headers_sound(t);
+    let slots = slots_kept(t, s);
+    (t.size <= sizes::MEMORY) & distinct & s.sound & headers & slots
+}
+
+// As many entries are to be seen as are in use: none where the counts are not within the sizes.
+pub fn to_be_seen(count: usize, kept: bool) -> usize
+    ensures { λ r. ⌜ r ≡ cond kept count 0 ⌝ }
+{
+    if kept { count } else { 0 }
+}
+
+// The place after one of the 64.
+pub fn place_after(at: usize) -> usize
+    ensures { λ r. ⌜ r ≡ at % SLOTS + 1 ⌝ }
+{
+    at % sizes::SLOTS + 1
+}
+
+// One less, if there are any.
+pub fn one_less(n: usize) -> usize
+    ensures { λ r. ⌜ r ≡ n - 1 ⌝ }
+{
+    if n == 0 { 0 } else { n - 1 }
+}
+
+// A pass begins.
+pub fn pass_begun(t: Target) -> Pass
+    ensures { λ r. ⌜ Passing t (r .scan) (r .at) (r .left) ⌝ }
+{
+    let scan = scan_begun(t);
+    let left = to_be_seen(t.entries.count, scan.kept);
+    Pass { left, at: 0, scan }
+}
+
+// A pass sees the next entry.
+pub fn pass_more(p: Pass, x: HeldEntry) -> Pass
+    ensures { λ r. ⌜ r ≡ passMore p x ⌝ }
+{
+    let old = p.scan;
+    let scan = scan_more(old, x);
+    Pass {
+        left: one_less(p.left),
+        at: place_after(p.at),
+        scan,
+    }
 }
 
 // The state is sound.
 pub fn sound(t: Target) -> bool
     ensures { λ r. ⌜ Tested isSound t r ⌝ }
 {
-    if !counts_kept(t) {
-        return false;
-    }
     let es = t.entries;
-    let scan = entries_scanned(es, t.size, t.last);
-    let distinct = handles_distinct(t, scan);
-    let headers = headers_sound(t);
-    let slots = slots_kept(t, scan);
-    (t.size <= sizes::MEMORY) & distinct & scan.sound & headers & slots
+    let mut p = pass_begun(t);
+    while p.left != 0 {
+        let at = p.at;
+        let x = es.slots[at];
+        p = pass_more(p, x);
+    }
+    let scan = p.scan;
+    scan_sound(t, scan)
 }

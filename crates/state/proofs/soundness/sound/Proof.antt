@@ -1,64 +1,76 @@
-use mathlib.Core.Path.{sym, _∙_}
-use mathlib.Core.Bool.{false≢true}
+-- A pass over the entries, and what it tells in the end.
+use mathlib.Core.Path.{_≡_, refl}
+use Prim.Native.Nat.{_<_}
+use native.Mathlib.Omega.{arith}
 use borrow.Author.Needs.{needs}
-use borrow.Author.Tests.{not-true, not-false}
-use Rattle.state.specs.Parts.{TargetFits}
-use Rattle.state.proofs.SoundLaws.{unsound-counts, sound-by}
+use Rattle.state.specs.Sizes.{SLOTS}
+use Rattle.state.specs.Parts.{Passing}
+use Rattle.state.proofs.PassLaws.{next-inside, next-fits, pass-turn, pass-done}
 use Rattle.state.proofs.soundness.sound.Statement.{statement}
 use Rattle.state.proofs.soundness.sound.Tie as tie
 
--- the counts are kept, so that all parts fit
-parts-fit : (c : tie.Else1) → TargetFits (c .before .before .args .t)
-parts-fit c = c .before .counts-kept .ensures .fits (not-false _ (c .if1 .left))
+abbrev Inv-loop : tie.InvT-loop
+Inv-loop t es p₀ p = Passing t (p .scan) (p .at) (p .left)
 
-counts-kept-requires : tie.Need-counts-kept-requires
-counts-kept-requires c κs = search needs
+abbrev μ-loop : tie.MeasureT-loop
+μ-loop t es p₀ p = p .left
 
-returns : tie.Need-returns
-returns c =
-    let k = c .before in
-    record {
-      answer = sym (unsound-counts (k .before .args .t) (sym (k .counts-kept .ensures .answer) ∙ not-true _ (c .if1 .taken)));
-      fits = λ e. absurd (false≢true e);
-    }
+-- some entry is still to be seen
+more : (c : tie.Then1 Inv-loop μ-loop) → 0 < c .before .before .loop .p .left
+more c = search needs
 
-entries-scanned-requires : tie.Need-entries-scanned-requires
-entries-scanned-requires c κs = parts-fit (c .before) .entries
+inside : (c : tie.Then1 Inv-loop μ-loop) → c .before .before .loop .p .at < SLOTS
+inside c =
+    let l = c .before .before in
+    next-inside (l .before .before .before .args .t) (l .loop .p .scan) (l .loop .p .at) (l .loop .p .left) (l .loop .inv) (more c)
 
-handles-distinct-requires : tie.Need-handles-distinct-requires
-handles-distinct-requires c κs = (parts-fit (c .before .before), c .entries-scanned .ensures)
+pass-begun-requires : tie.Need-pass-begun-requires Inv-loop μ-loop
+pass-begun-requires c κs = search needs
 
-headers-sound-requires : tie.Need-headers-sound-requires
-headers-sound-requires c κs = parts-fit (c .before .before .before)
+loop-holds : tie.Need-loop-holds Inv-loop μ-loop
+loop-holds c = search needs
 
-slots-kept-requires : tie.Need-slots-kept-requires
-slots-kept-requires c κs =
-    let e = c .before .before in
-    (parts-fit (e .before .before), e .entries-scanned .ensures)
+mul-x : tie.Need-mul-x Inv-loop μ-loop
+mul-x c = record { fits = let k = inside c in omega arith }
 
-returns-2 : tie.Need-returns-2
-returns-2 c =
-    let s = c .before .before in
-    let h = s .before in
-    let d = h .before in
-    let e = d .before in
-    let b = e .before .before in
-    let k = b .before .counts-kept in
-    record {
-      answer =
-          sound-by (b .before .before .args .t) _ _ _ _ (sym (k .ensures .answer) ∙ not-false _ (b .if1 .left))
-          (d .handles-distinct .ensures) (e .entries-scanned .ensures .sound) (h .headers-sound .ensures) (s .slots-kept .ensures);
-      fits = λ passed. parts-fit b;
-    }
+element-copy-out-x : tie.Need-element-copy-out-x Inv-loop μ-loop
+element-copy-out-x c = inside c
+
+pass-more-requires : tie.Need-pass-more-requires Inv-loop μ-loop
+pass-more-requires c κs = search needs
+
+loop-less : tie.Need-loop-less Inv-loop μ-loop
+loop-less c =
+    let h = more (c .before .before) in
+    rw (c .pass-more .ensures) (omega arith)
+
+loop-again : tie.Need-loop-again Inv-loop μ-loop
+loop-again c =
+    let b = c .before .before in
+    let l = b .before .before in
+    rw (c .pass-more .ensures)
+    (pass-turn (l .before .before .before .args .t) (l .loop .p .scan) (l .loop .p .at) (l .loop .p .left) (l .loop .inv) (more b))
+
+scan-sound-requires : tie.Need-scan-sound-requires Inv-loop μ-loop
+scan-sound-requires c κs =
+    let l = c .before .before .before in
+    pass-done (l .before .before .before .args .t) (l .loop .p .scan) (l .loop .p .at) (l .loop .p .left) (l .loop .inv) (search needs)
+
+returns : tie.Need-returns Inv-loop μ-loop
+returns c = search needs
 
 pub sound-spec : {M : Type 1} → statement M
 sound-spec =
     tie.close
     (tie.spec
-    counts-kept-requires
-    returns
-    entries-scanned-requires
-    handles-distinct-requires
-    headers-sound-requires
-    slots-kept-requires
-    returns-2)
+    Inv-loop
+    μ-loop
+    pass-begun-requires
+    loop-holds
+    mul-x
+    element-copy-out-x
+    pass-more-requires
+    loop-less
+    loop-again
+    scan-sound-requires
+    returns)
