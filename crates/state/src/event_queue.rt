@@ -15,7 +15,7 @@ ghost use Rattle.state.specs.Parts.{QueueFits, QueueHolds, Popped};
 ghost use Rattle.state.specs.Events.{isDisabled, withGap, gapOf, post, withoutOldest};
 
 // The options disable the event.
-fn is_event_disabled(e: Event, options: u32) -> bool
+pub fn is_event_disabled(e: Event, options: u32) -> bool
     ensures { λ r. ⌜ r ≡ isDisabled (record { event = e; options = options }) ⌝ }
 {
     let kind = kinds::event_kind(e.kind);
@@ -24,21 +24,21 @@ fn is_event_disabled(e: Event, options: u32) -> bool
 }
 
 // The gap that the next event carries.
-fn gap_of(lost: u64) -> u16
+pub fn gap_of(lost: u64) -> u16
     ensures { λ r. ⌜ r ≡ gapOf lost ⌝ }
 {
     if lost == 0 { 0 } else { 1 }
 }
 
 // An event joins a queue of n events: it is not disabled, and there is room.
-fn is_queued(disabled: bool, n: usize) -> bool
+pub fn is_queued(disabled: bool, n: usize) -> bool
     ensures { λ r. ⌜ r ≡ (not disabled && ltb n EVENTS) ⌝ }
 {
     !disabled & (n < sizes::EVENTS)
 }
 
 // It is lost: it is not disabled, and there is no room.
-fn is_lost(disabled: bool, n: usize) -> bool
+pub fn is_lost(disabled: bool, n: usize) -> bool
     ensures { λ r. ⌜ r ≡ (not disabled && not (ltb n EVENTS)) ⌝ }
 {
     !disabled & !(n < sizes::EVENTS)
@@ -58,7 +58,7 @@ fn event_stored(joins: bool, e: Event, gap: u16, old: Event) -> Event
 }
 
 // How many events the queue holds after one was posted.
-fn count_after(joins: bool, n: usize) -> usize
+pub fn count_after(joins: bool, n: usize) -> usize
     requires { ⌜ n ≤ EVENTS ⌝ }
     ensures { λ r. ⌜ r ≡ cond joins (n + 1) n ⌝ }
 {
@@ -66,7 +66,7 @@ fn count_after(joins: bool, n: usize) -> usize
 }
 
 // The mark of lost events: none after one that joins, set by one that is lost.
-fn lost_after(joins: bool, loses: bool, lost: u64) -> u64
+pub fn lost_after(joins: bool, loses: bool, lost: u64) -> u64
     ensures { λ r. ⌜ r ≡ cond joins 0 (cond loses 1 lost) ⌝ }
 {
     if joins {

@@ -1,0 +1,3 @@
+pub mod PatchLaws
+pub mod DecidedLaws
+pub mod SeekLaws
