@@ -2,7 +2,7 @@
 use mathlib.Core.Path.{_≡_}
 use mathlib.Core.Bool.{Bool, true, false, _&&_, _||_, not, cond}
 use mathlib.Core.List.{List}
-use Prim.Native.Nat.{ℕ, _+_, _%_, _<_}
+use Prim.Native.Nat.{ℕ, _+_, _-_, _%_, _<_}
 use lib.Dec.{ltb}
 use lib.ListN.{set}
 use Rattle.state.specs.Sizes.{SLOTS, HEADERS, EVENTS, COUNTERS}
@@ -147,4 +147,52 @@ queuePatch head first second = record {
   head = head;
   count = second .count;
   lost = second .lost;
+}
+
+-- ## Patches of one part
+
+-- one counter
+abbrev pub counterChange : Counts → CounterPatch → Patch
+counterChange c counter = record {
+  last = c .last;
+  entry = noEntry (c .entries);
+  header = noHeader (c .headers);
+  queue = noEvents c;
+  counter = counter;
+  registers = c .registers;
+}
+
+-- the oldest event is taken, or none is
+abbrev pub takenFrom : Counts → Bool → QueuePatch
+takenFrom c takes = record {
+  first = false;
+  firstat = 0;
+  firstslot = zeroEvent;
+  second = false;
+  secondat = 0;
+  secondslot = zeroEvent;
+  head = cond takes ((c .head % EVENTS + 1) % EVENTS) (c .head);
+  count = cond takes (c .events - 1) (c .events);
+  lost = c .lost;
+}
+
+abbrev pub eventTaken : Counts → Bool → Patch
+eventTaken c takes = record {
+  last = c .last;
+  entry = noEntry (c .entries);
+  header = noHeader (c .headers);
+  queue = takenFrom c takes;
+  counter = noCounter;
+  registers = c .registers;
+}
+
+-- one entry goes, or none does
+abbrev pub entryGone : Counts → Bool → ℕ → Patch
+entryGone c goes at = record {
+  last = c .last;
+  entry = record { stores = false; removes = goes; at = at % SLOTS; slot = zeroEntry; count = c .entries };
+  header = noHeader (c .headers);
+  queue = noEvents c;
+  counter = noCounter;
+  registers = c .registers;
 }

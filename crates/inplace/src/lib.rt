@@ -1,4 +1,5 @@
 // Calls on a lent target that work where it is: its entries are read one by one, and what changes is stored in place.
+pub mod admission;
 pub mod decided;
 pub mod patch;
 pub mod seek;

@@ -10,12 +10,12 @@ use state::layout::Registers;
 use state::layout::Target;
 use state::sizes;
 ghost use mathlib.Core.Path.{_≡_};
-ghost use mathlib.Core.Bool.{cond};
-ghost use Prim.Native.Nat.{_≤_};
+ghost use mathlib.Core.Bool.{true, cond};
+ghost use Prim.Native.Nat.{_≤_, _<_};
 ghost use Rattle.state.specs.Sizes.{EVENTS};
 ghost use Rattle.state.specs.Counters.{increased};
 ghost use Rattle.state.specs.View.{zeroCounter};
-ghost use Rattle.inplace.specs.Patch.{countsOf, counterStored, noEntry, noHeader, noCounter, noEvents, unchanged, posting, queuePatch};
+ghost use Rattle.inplace.specs.Patch.{countsOf, counterStored, noEntry, noHeader, noCounter, noEvents, unchanged, posting, queuePatch, counterChange, eventTaken, entryGone};
 
 // The numbers of a target that stand beside its arrays.
 pub struct Counts {
@@ -257,4 +257,40 @@ pub fn queue_patch(head: usize, first: Posting, second: Posting) -> QueuePatch
         count: second.count,
         lost: second.lost,
     }
+}
+
+// ## Patches of one part
+
+// One counter.
+pub fn counter_change(c: Counts, counter: CounterPatch) -> Patch
+    ensures { λ r. ⌜ r ≡ counterChange c counter ⌝ }
+{
+    let mut p = unchanged(c);
+    p.counter = counter;
+    p
+}
+
+// The oldest event is taken, or none is.
+pub fn event_taken(c: Counts, takes: bool) -> Patch
+    requires { ⌜ ((takes ≡ true) → (0 < c .events)) ⌝ }
+    ensures { λ r. ⌜ r ≡ eventTaken c takes ⌝ }
+{
+    let mut queue = no_events(c);
+    queue.head = event_queue::head_after(takes, c.head);
+    queue.count = event_queue::count_less(takes, c.events);
+    let mut p = unchanged(c);
+    p.queue = queue;
+    p
+}
+
+// One entry goes, or none does.
+pub fn entry_gone(c: Counts, goes: bool, at: usize) -> Patch
+    ensures { λ r. ⌜ r ≡ entryGone c goes at ⌝ }
+{
+    let mut entry = no_entry(c.entries);
+    entry.removes = goes;
+    entry.at = at % sizes::SLOTS;
+    let mut p = unchanged(c);
+    p.entry = entry;
+    p
 }

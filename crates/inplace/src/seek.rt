@@ -109,8 +109,7 @@ fn found_decided(s: Seek, waiting: usize) -> Decision
 
 // The tests in their order, then the rules: what becomes of the request, by a pass that has seen every entry.
 pub fn seek_decided(t: Target, s: Seek, x: Asked) -> Decision
-    requires { ⌜ Seeking t x s ⌝ }
-    requires { ⌜ s .left ≡ 0 ⌝ }
+    requires { ⌜ Seeking t x s × (s .left ≡ 0) ⌝ }
     ensures { λ r. ⌜ DecidedAs t (x .size) (x .q) (x .kind) (x .requested) r ⌝ }
 {
     let scan = s.scan;
