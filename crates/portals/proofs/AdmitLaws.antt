@@ -1,5 +1,5 @@
 -- When a call is admitted, and what follows from it.
-use mathlib.Core.Path.{_≡_, refl, ap, sym, _∙_}
+use mathlib.Core.Path.{_≡_, refl, ap, sym, _∙_, subst}
 use mathlib.Core.Bool.{Bool, true, false, not, cond, false≢true}
 use mathlib.Core.List.{List, [], _∷_}
 use Prim.Native.Nat.{ℕ, _<_}
@@ -43,6 +43,13 @@ pub admits-for : (found bad : BadArgument) (t : Target) (a : Admission)
     → Admits (λ v. goodArguments found ∷ []) t a
     → a ≡ admission (λ v. goodArguments bad ∷ []) t
 admits-for found bad t a e h = h .answer ∙ ap (λ (b : BadArgument). admission (λ v. goodArguments b ∷ []) t) e
+
+-- so the call is admitted by its rule
+pub admits-as : (found bad : BadArgument) (t : Target) (a : Admission)
+    → found ≡ bad
+    → Admits (λ v. goodArguments found ∷ []) t a
+    → Admits (λ v. goodArguments bad ∷ []) t a
+admits-as found bad t a e h = subst (λ (b : BadArgument). Admits (λ v. goodArguments b ∷ []) t a) e h
 
 -- ## A call that makes its tests one after the other
 

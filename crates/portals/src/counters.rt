@@ -13,13 +13,13 @@ use state::layout::Target;
 use state::sizes;
 ghost use mathlib.Core.Path.{_≡_};
 ghost use mathlib.Core.Bool.{cond};
-ghost use Rattle.portals.specs.Admission.{byAdmission};
+ghost use Rattle.portals.specs.Admission.{byAdmission, Admits};
 ghost use Rattle.portals.specs.Answers.{COUNTER, READY, NOT-READY, refused, counterAnswer, readyAnswer};
-ghost use Rattle.portals.specs.CounterCalls.{badCounterArgument, isReady};
+ghost use Rattle.portals.specs.CounterCalls.{badCounterArgument, counterTests, isReady};
 ghost use Rattle.portals.specs.Promises.{SetCounterMet, IncrementMet, ReadCounterMet, ReadyMet};
 
 // The first bad argument of a call on a counter.
-fn bad_counter_argument(k: u64) -> BadArgument
+pub fn bad_counter_argument(k: u64) -> BadArgument
     ensures { λ r. ⌜ r ≡ badCounterArgument k ⌝ }
 {
     admission::bad_unless(k < sizes::COUNTERS, BadArgument::Counter)
@@ -92,14 +92,34 @@ pub fn increment(t: Target, x: CounterChange) -> PlainDone
     }
 }
 
+// A counter is read, by the call's admission.
+pub fn counter_read(t: Target, a: Admission, k: u64) -> CounterAnswer
+    requires { ⌜ Admits (λ v. counterTests k) t a ⌝ }
+    ensures { λ r. ⌜ ReadCounterMet t k r ⌝ }
+{
+    let cs = t.counters;
+    let c = counters::counter_at(cs, k);
+    answer_counter(a, c)
+}
+
 // Reads both fields of a counter.
 pub fn read_counter(t: Target, k: u64) -> CounterAnswer
     ensures { λ r. ⌜ ReadCounterMet t k r ⌝ }
 {
     let bad = bad_counter_argument(k);
     let a = admission::admit(t, bad);
-    let c = counters::counter_at(t.counters, k);
-    answer_counter(a, c)
+    counter_read(t, a, k)
+}
+
+// A counter is tested, by the call's admission.
+pub fn counter_tested(t: Target, a: Admission, x: CounterTest) -> ReadyAnswer
+    requires { ⌜ Admits (λ v. counterTests (x .counter)) t a ⌝ }
+    ensures { λ r. ⌜ ReadyMet t x r ⌝ }
+{
+    let cs = t.counters;
+    let c = counters::counter_at(cs, x.counter);
+    let passed = is_ready(c, x.test);
+    answer_ready(a, passed)
 }
 
 // Tests a counter: whether it is ready.
@@ -108,7 +128,5 @@ pub fn ready(t: Target, x: CounterTest) -> ReadyAnswer
 {
     let bad = bad_counter_argument(x.counter);
     let a = admission::admit(t, bad);
-    let c = counters::counter_at(t.counters, x.counter);
-    let passed = is_ready(c, x.test);
-    answer_ready(a, passed)
+    counter_tested(t, a, x)
 }

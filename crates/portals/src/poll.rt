@@ -8,10 +8,12 @@ use state::layout::Counters;
 use state::layout::Target;
 use state::sizes;
 ghost use mathlib.Core.Path.{_≡_};
+ghost use mathlib.Core.List.{_∷_, []};
 ghost use lib.ListN.{length};
 ghost use Rattle.matching.specs.Entry.{isCounter};
 ghost use Rattle.state.specs.Lists.{every};
-ghost use Rattle.portals.specs.Admission.{byAdmission};
+ghost use Rattle.portals.specs.Refusals.{goodArguments};
+ghost use Rattle.portals.specs.Admission.{byAdmission, Admits};
 ghost use Rattle.portals.specs.Answers.{refused, pollAnswer};
 ghost use Rattle.portals.specs.CounterCalls.{badPollArgument, reachedFrom, reachedAnswer};
 ghost use Rattle.portals.specs.Promises.{PollMet};
@@ -34,7 +36,7 @@ fn all_counters(ks: &[u64]) -> bool
 
 // The first bad argument of a poll, over lists "of equal length (else ARG_INVALID)". Every counter is tested, whatever is reached
 // before it.
-fn bad_poll_argument(ks: &[u64], tests: &[u64]) -> BadArgument
+pub fn bad_poll_argument(ks: &[u64], tests: &[u64]) -> BadArgument
     ensures { λ r. ⌜ r ≡ badPollArgument (now (ks .entry)) (now (tests .entry)) ⌝ }
 {
     if !all_counters(ks) {
@@ -72,11 +74,20 @@ fn answer_poll(a: Admission, cs: Counters, ks: &[u64], tests: &[u64]) -> PollAns
     }
 }
 
+// A list of counters is polled, by the call's admission.
+pub fn counters_polled(t: Target, a: Admission, ks: &[u64], tests: &[u64]) -> PollAnswer
+    requires { ⌜ Admits (λ v. goodArguments (badPollArgument (now ks) (now tests)) ∷ []) t a ⌝ }
+    ensures { λ r. ⌜ PollMet t (now (ks .entry)) (now (tests .entry)) r ⌝ }
+{
+    let cs = t.counters;
+    answer_poll(a, cs, ks, tests)
+}
+
 // Polls a list of counters, each with the test at its place in another list.
 pub fn poll(t: Target, ks: &[u64], tests: &[u64]) -> PollAnswer
     ensures { λ r. ⌜ PollMet t (now (ks .entry)) (now (tests .entry)) r ⌝ }
 {
     let bad = bad_poll_argument(ks, tests);
     let a = admission::admit(t, bad);
-    answer_poll(a, t.counters, ks, tests)
+    counters_polled(t, a, ks, tests)
 }

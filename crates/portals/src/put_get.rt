@@ -61,7 +61,7 @@ fn answer_delivery(p: Plan, kind: Kind, ack: u16) -> RequestAnswer
 }
 
 // What a request answers.
-fn answer_by(d: Decision, kind: Kind, ack: u16) -> RequestAnswer
+pub fn answer_by(d: Decision, kind: Kind, ack: u16) -> RequestAnswer
     ensures { λ r. ⌜ requestAnswer r ≡ answerBy kind ack d ⌝ }
 {
     let asked = request::ack_asked(kind, ack);

@@ -6,8 +6,11 @@ use matching::refusals::BadArgument;
 use state::layout::Target;
 use state::registers;
 ghost use mathlib.Core.Path.{_≡_};
-ghost use Rattle.portals.specs.Admission.{byAdmission};
+ghost use mathlib.Core.List.{_∷_, []};
+ghost use Rattle.portals.specs.Refusals.{goodArguments};
+ghost use Rattle.portals.specs.Admission.{byAdmission, Admits};
 ghost use Rattle.portals.specs.Answers.{REGISTER, refused, registerAnswer};
+ghost use Rattle.portals.specs.CounterCalls.{badRegisterArgument};
 ghost use Rattle.portals.specs.Promises.{ReadRegisterMet};
 
 // What a register read answers.
@@ -20,12 +23,28 @@ fn answer_register(a: Admission, value: u64) -> RegisterAnswer
     }
 }
 
+// The first bad argument of a register read.
+pub fn bad_register_argument(k: u64) -> BadArgument
+    ensures { λ r. ⌜ r ≡ badRegisterArgument k ⌝ }
+{
+    admission::bad_unless(k <= 2, BadArgument::Register)
+}
+
+// A register is read, by the call's admission.
+pub fn register_read(t: Target, a: Admission, k: u64) -> RegisterAnswer
+    requires { ⌜ Admits (λ v. goodArguments (badRegisterArgument k) ∷ []) t a ⌝ }
+    ensures { λ r. ⌜ ReadRegisterMet t k r ⌝ }
+{
+    let rs = t.registers;
+    let value = registers::register_at(rs, k);
+    answer_register(a, value)
+}
+
 // Reads a status register.
 pub fn read_register(t: Target, k: u64) -> RegisterAnswer
     ensures { λ r. ⌜ ReadRegisterMet t k r ⌝ }
 {
-    let bad = admission::bad_unless(k <= 2, BadArgument::Register);
+    let bad = bad_register_argument(k);
     let a = admission::admit(t, bad);
-    let value = registers::register_at(t.registers, k);
-    answer_register(a, value)
+    register_read(t, a, k)
 }

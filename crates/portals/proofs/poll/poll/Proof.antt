@@ -1,6 +1,6 @@
 use borrow.Author.Needs.{needs}
-use Rattle.portals.proofs.AdmitLaws.{lists-equal}
-use Rattle.portals.proofs.PartCalls.{poll-met}
+use Rattle.portals.specs.CounterCalls.{badPollArgument}
+use Rattle.portals.proofs.AdmitLaws.{admits-as}
 use Rattle.portals.proofs.poll.poll.Statement.{statement}
 use Rattle.portals.proofs.poll.poll.Tie as tie
 
@@ -10,21 +10,14 @@ bad-poll-argument-requires c κs = search needs
 admit-requires : tie.Need-admit-requires
 admit-requires c κs = search needs
 
-answer-poll-requires : tie.Need-answer-poll-requires
-answer-poll-requires c κs =
+counters-polled-requires : tie.Need-counters-polled-requires
+counters-polled-requires c κs =
     let b = c .before in
     let a = b .before .before .before .args in
-    lists-equal (a .ks .now) (a .tests .now) (a .t) (c .admit .result) (b .bad-poll-argument .result)
-    (b .bad-poll-argument .ensures) (c .admit .ensures)
+    admits-as (b .bad-poll-argument .result) (badPollArgument (a .ks .now) (a .tests .now)) (a .t) (c .admit .result) (b .bad-poll-argument .ensures) (c .admit .ensures)
 
 returns : tie.Need-returns
-returns c =
-    let m = c .before in
-    let b = m .before in
-    let a = b .before .before .before .args in
-    poll-met (a .t) _ (b .bad-poll-argument .result) (m .admit .result) (m .admit .ensures) (a .ks .now) (a .tests .now)
-    (b .bad-poll-argument .ensures) (c .answer-poll .ensures)
+returns c = c .counters-polled .ensures
 
 pub poll-spec : {M : Type 1} → statement M
-poll-spec =
-    tie.close (tie.spec bad-poll-argument-requires admit-requires answer-poll-requires returns)
+poll-spec = tie.close (tie.spec bad-poll-argument-requires admit-requires counters-polled-requires returns)

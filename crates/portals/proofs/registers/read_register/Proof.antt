@@ -1,28 +1,23 @@
 use borrow.Author.Needs.{needs}
-use Rattle.portals.proofs.PartCalls.{read-register-met}
+use Rattle.portals.specs.CounterCalls.{badRegisterArgument}
+use Rattle.portals.proofs.AdmitLaws.{admits-as}
 use Rattle.portals.proofs.registers.read_register.Statement.{statement}
 use Rattle.portals.proofs.registers.read_register.Tie as tie
 
-bad-unless-requires : tie.Need-bad-unless-requires
-bad-unless-requires c κs = search needs
+bad-register-argument-requires : tie.Need-bad-register-argument-requires
+bad-register-argument-requires c κs = search needs
 
 admit-requires : tie.Need-admit-requires
 admit-requires c κs = search needs
 
-register-at-requires : tie.Need-register-at-requires
-register-at-requires c κs = search needs
-
-answer-register-requires : tie.Need-answer-register-requires
-answer-register-requires c κs = search needs
+register-read-requires : tie.Need-register-read-requires
+register-read-requires c κs =
+    let b = c .before in
+    let a = b .before .args in
+    admits-as (b .bad-register-argument .result) (badRegisterArgument (a .k)) (a .t) (c .admit .result) (b .bad-register-argument .ensures) (c .admit .ensures)
 
 returns : tie.Need-returns
-returns c =
-    let o = c .before in
-    let m = o .before in
-    let b = m .before in
-    let a = b .before .args in
-    read-register-met (a .t) _ (b .bad-unless .result) (m .admit .result) (m .admit .ensures) (a .k) (o .register-at .result)
-    (b .bad-unless .ensures) (o .register-at .ensures) (c .answer-register .ensures)
+returns c = c .register-read .ensures
 
 pub read-register-spec : {M : Type 1} → statement M
-read-register-spec = tie.close (tie.spec bad-unless-requires admit-requires register-at-requires answer-register-requires returns)
+read-register-spec = tie.close (tie.spec bad-register-argument-requires admit-requires register-read-requires returns)
