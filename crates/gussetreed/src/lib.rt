@@ -3,3 +3,4 @@ pub mod calls;
 pub mod layout;
 pub mod replied;
 pub mod replies;
+pub mod told;

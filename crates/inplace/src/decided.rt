@@ -40,7 +40,11 @@ fn entry_patch(count: usize, p: Plan) -> EntryPatch
 fn one_more(waits: bool, count: usize) -> usize
     ensures { λ r. ⌜ r ≡ cond waits (count % HEADERS + 1) count ⌝ }
 {
-    if waits { count % sizes::HEADERS + 1 } else { count }
+    if waits {
+        count % sizes::HEADERS + 1
+    } else {
+        count
+    }
 }
 
 // Rule 6: the header.
@@ -65,7 +69,14 @@ fn events_patch(c: Counts, p: Plan) -> QueuePatch
     let arrival = events::arrival_event(p.message, p.entry);
     let first = patch::posted_in(true, c.head, c.events, c.lost, arrival, options);
     let unlinked = events::auto_unlink_event(p.entry);
-    let second = patch::posted_in(p.unlinks, c.head, first.count, first.lost, unlinked, options);
+    let second = patch::posted_in(
+        p.unlinks,
+        c.head,
+        first.count,
+        first.lost,
+        unlinked,
+        options,
+    );
     patch::queue_patch(c.head, first, second)
 }
 

@@ -3,3 +3,4 @@ pub mod admission;
 pub mod decided;
 pub mod patch;
 pub mod seek;
+pub mod tests;

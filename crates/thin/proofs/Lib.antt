@@ -7,6 +7,8 @@ pub mod ThinPut
 pub mod ThinGet
 pub mod LookOne
 pub mod LookLists
+pub mod Elements
+pub mod ScanOne
 pub mod ByOne
 pub mod ByAlone
 pub mod ByPut

@@ -1,0 +1,39 @@
+// What is tested of a lent target, where it is: its entries are read one by one.
+use crate::admission;
+use crate::seek;
+use crate::seek::Asked;
+use matching::refusals::BadArgument;
+use portals::admission::Admission;
+use requests::decision::Decision;
+use state::layout::Target;
+use state::soundness;
+ghost use mathlib.Core.List.{_∷_, []};
+ghost use Rattle.portals.specs.Refusals.{goodArguments};
+ghost use Rattle.portals.specs.Admission.{Admits};
+ghost use Rattle.portals.specs.Request.{DecidedAs};
+
+// Whether a call is admitted that tests only its state and its arguments; `bad` is its first bad argument, or none.
+pub fn admitted(t: &Target, bad: BadArgument) -> Admission
+    ensures { λ r. ⌜ Admits (λ v. goodArguments bad ∷ []) (now (t .entry)) r ⌝ }
+{
+    let mut p = admission::admission_begun(*t, bad);
+    while p.left != 0 {
+        let at = p.at;
+        let x = t.entries.slots[at];
+        p = soundness::pass_more(p, x);
+    }
+    admission::pass_admitted(*t, p, bad)
+}
+
+// What becomes of a request.
+pub fn request_decided(t: &Target, a: Asked) -> Decision
+    ensures { λ r. ⌜ DecidedAs (now (t .entry)) (a .size) (a .q) (a .kind) (a .requested) r ⌝ }
+{
+    let mut s = seek::seek_begun(*t, a);
+    while s.left != 0 {
+        let at = s.at;
+        let x = t.entries.slots[at];
+        s = seek::seek_more(s, x);
+    }
+    seek::seek_decided(*t, s, a)
+}
