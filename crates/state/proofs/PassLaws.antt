@@ -1,18 +1,21 @@
 -- A pass over the entries of a target: how it begins, a turn, and what it has told when every entry has been seen.
 use mathlib.Core.Path.{_≡_, refl, sym, _∙_, subst}
-use mathlib.Core.Bool.{Bool, true, false, _&&_, false≢true}
+use mathlib.Core.Bool.{Bool, true, false, _&&_}
+use mathlib.Core.List.{List, []}
 use Prim.Native.Nat.{ℕ, _+_, _-_, _%_, _≤_, _<_}
 use native.Mathlib.Omega.{arith}
 use native.Mathlib.Nat.{mod-eq-of-lt}
 use lib.ListN.{drop, getD}
 use Rattle.state.specs.Sizes.{SLOTS}
-use Rattle.state.specs.Lists.{every}
-use Rattle.state.specs.View.{isLinked, entriesOf, zeroEntry}
-use Rattle.state.specs.Soundness.{entrySound, countsKept}
-use Rattle.state.specs.Parts.{TargetFits, ascend, ScanTells, SoFar, Scanned, scanMore, Passing}
+use Rattle.state.specs.Lists.{every, any}
+use Rattle.state.specs.View.{isLinked, entriesOf, headersOf, zeroEntry}
+use Rattle.state.specs.Soundness.{entrySound, waitsIn, keepsSlot, countsKept}
+use Rattle.state.specs.Parts.{TargetFits, ScanTells, allFound, SoFar, Scanned, scanMore, Passing}
 use Rattle.state.specs.declared.layout.HeldEntry.{HeldEntry}
+use Rattle.state.specs.declared.layout.Header.{Header}
 use Rattle.state.specs.declared.layout.Target.{Target}
 use Rattle.state.specs.declared.soundness.Scan.{Scan}
+use Rattle.state.proofs.ListLaws.{or-left, every-imply}
 use Rattle.state.proofs.TurnLaws.{every-more, every-told}
 use Rattle.state.proofs.HandleLaws.{ascend-more, ascend-told, ascend-distinct}
 
@@ -55,6 +58,28 @@ module _ (t : Target) (s : Scan) (i : ℕ) where
 -- every entry has been seen
 pub scan-tells : (t : Target) (s : Scan) → Scanned t s (t .entries .count) → s .kept ≡ true → ScanTells (entriesOf (t .entries)) (t .size) (t .last) s
 scan-tells t s f k = so-far-tells t s (t .entries .count) (f .told k) (omega arith)
+
+-- by the numbers that the pass keeps
+pub scan-tells-own : (t : Target) (s : Scan) → Scanned t s (t .entries .count) → s .kept ≡ true → ScanTells (entriesOf (t .entries)) (s .size) (s .last) s
+scan-tells-own t s f k =
+    let tells = scan-tells t s f k in
+    record {
+      sound = tells .sound ∙ rw (f .told k .size, f .told k .last);
+      ascend = tells .ascend;
+      linked = tells .linked;
+    }
+
+-- linked entries keep their slots, whatever waits
+pub linked-kept : (entries : List HeldEntry) (headers : List Header) → every isLinked entries ≡ true → every (keepsSlot headers) entries ≡ true
+linked-kept entries headers e = every-imply isLinked (keepsSlot headers) entries (λ x h. or-left (isLinked x) (any (waitsIn x) headers) h) e
+
+-- where no header waits, no entry is retired and the handles ascend, nothing is to be looked for
+pub nothing-to-find : (t : Target) (s : Scan) → Scanned t s (t .entries .count) → s .kept ≡ true
+    → t .unexpected .count ≡ 0 → s .ascend ≡ true → s .linked ≡ true
+    → allFound (entriesOf (t .entries)) (headersOf (t .unexpected)) ≡ true
+nothing-to-find t s f k none ascend linked =
+    let tells = scan-tells t s f k in
+    rw (none, tells .ascend ascend) (linked-kept (entriesOf (t .entries)) [] (sym (tells .linked) ∙ linked))
 
 -- ## A pass
 

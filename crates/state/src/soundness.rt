@@ -15,13 +15,14 @@ use matching::early_messages;
 use matching::entry;
 use matching::refusals;
 ghost use mathlib.Core.Path.{_≡_};
-ghost use mathlib.Core.Bool.{cond};
+ghost use mathlib.Core.Bool.{_&&_, cond};
 ghost use Prim.Native.Nat.{_+_, _-_, _%_, _<_};
+ghost use lib.Dec.{eqb};
 ghost use Rattle.state.specs.Sizes.{SLOTS};
 ghost use Rattle.state.specs.Lists.{every, nextPlace};
 ghost use Rattle.state.specs.View.{entriesOf, headersOf};
 ghost use Rattle.state.specs.Soundness.{distinct, entrySound, holds, lengthsKept, headerSound, keepsSlot, countsKept, isSound};
-ghost use Rattle.state.specs.Parts.{EntriesFit, UnexpectedFit, TargetFits, ScanTells, Scanned, scanMore, Passing, passMore, Tested};
+ghost use Rattle.state.specs.Parts.{EntriesFit, UnexpectedFit, TargetFits, ScanTells, allFound, Scanned, scanMore, Passing, passMore, Tested};
 
 // What a pass over the entries has told of those that it has seen.
 pub struct Scan {
@@ -124,15 +125,14 @@ fn pairs_differ(es: Entries) -> bool
 }
 
 // No two entries have the same handle. All pairs are compared only where the handles do not ascend.
-fn handles_distinct(t: Target, scan: Scan) -> bool
-    requires { ⌜ TargetFits t ⌝ }
-    requires { ⌜ ScanTells (entriesOf (t .entries)) (t .size) (t .last) scan ⌝ }
-    ensures { λ r. ⌜ r ≡ distinct (entriesOf (t .entries)) ⌝ }
+fn handles_distinct(es: Entries, scan: Scan) -> bool
+    requires { ⌜ EntriesFit es ⌝ }
+    requires { ⌜ ScanTells (entriesOf es) (scan .size) (scan .last) scan ⌝ }
+    ensures { λ r. ⌜ r ≡ distinct (entriesOf es) ⌝ }
 {
     if scan.ascend {
         return true;
     }
-    let es = t.entries;
     pairs_differ(es)
 }
 
@@ -203,19 +203,6 @@ fn headers_sound_in(es: Entries, us: Unexpected) -> bool
     true
 }
 
-// Every header is sound. Nothing is looked for where none waits.
-fn headers_sound(t: Target) -> bool
-    requires { ⌜ TargetFits t ⌝ }
-    ensures { λ r. ⌜ r ≡ every (headerSound (entriesOf (t .entries))) (headersOf (t .unexpected)) ⌝ }
-{
-    if t.unexpected.count == 0 {
-        return true;
-    }
-    let es = t.entries;
-    let us = t.unexpected;
-    headers_sound_in(es, us)
-}
-
 // Every retired entry has a message waiting. The search begins where the last one's was found, and goes around.
 fn slots_kept_in(es: Entries, us: Unexpected) -> bool
     requires { ⌜ EntriesFit es ⌝ }
@@ -246,17 +233,35 @@ fn slots_kept_in(es: Entries, us: Unexpected) -> bool
 }
 
 // Every entry keeps its slot. Nothing is looked for where none is retired.
-fn slots_kept(t: Target, scan: Scan) -> bool
-    requires { ⌜ TargetFits t ⌝ }
-    requires { ⌜ ScanTells (entriesOf (t .entries)) (t .size) (t .last) scan ⌝ }
-    ensures { λ r. ⌜ r ≡ every (keepsSlot (headersOf (t .unexpected))) (entriesOf (t .entries)) ⌝ }
+fn slots_kept(es: Entries, us: Unexpected, scan: Scan) -> bool
+    requires { ⌜ EntriesFit es × UnexpectedFit us ⌝ }
+    requires { ⌜ ScanTells (entriesOf es) (scan .size) (scan .last) scan ⌝ }
+    ensures { λ r. ⌜ r ≡ every (keepsSlot (headersOf us)) (entriesOf es) ⌝ }
 {
     if scan.linked {
         return true;
     }
-    let es = t.entries;
-    let us = t.unexpected;
     slots_kept_in(es, us)
+}
+
+// What is to be looked for among entries and headers: that handles are distinct, that each header has its entry, and each retired entry
+// a header.
+fn all_found(es: Entries, us: Unexpected, scan: Scan) -> bool
+    requires { ⌜ EntriesFit es × UnexpectedFit us ⌝ }
+    requires { ⌜ ScanTells (entriesOf es) (scan .size) (scan .last) scan ⌝ }
+    ensures { λ r. ⌜ r ≡ allFound (entriesOf es) (headersOf us) ⌝ }
+{
+    let distinct = handles_distinct(es, scan);
+    let headers = headers_sound_in(es, us);
+    let slots = slots_kept(es, us, scan);
+    distinct & headers & slots
+}
+
+// Nothing is to be looked for: no header waits, no entry is retired, and the handles ascend.
+fn nothing_sought(waiting: usize, scan: Scan) -> bool
+    ensures { λ r. ⌜ r ≡ (eqb waiting 0 && scan .ascend && scan .linked) ⌝ }
+{
+    (waiting == 0) & scan.ascend & scan.linked
 }
 
 // The state is sound, by a pass that has seen every entry.
@@ -267,10 +272,14 @@ pub fn scan_sound(t: Target, s: Scan) -> bool
     if !s.kept {
         return false;
     }
-    let distinct = handles_distinct(t, s);
-    let headers = headers_sound(t);
-    let slots = slots_kept(t, s);
-    (t.size <= sizes::MEMORY) & distinct & s.sound & headers & slots
+    let alone = (t.size <= sizes::MEMORY) & s.sound;
+    if nothing_sought(t.unexpected.count, s) {
+        return alone;
+    }
+    let es = t.entries;
+    let us = t.unexpected;
+    let found = all_found(es, us, s);
+    alone & found
 }
 
 // As many entries are to be seen as are in use: none where the counts are not within the sizes.
@@ -328,5 +337,10 @@ pub fn sound(t: Target) -> bool
         p = pass_more(p, x);
     }
     let scan = p.scan;
-    scan_sound(t, scan)
+    if !scan.kept {
+        return false;
+    }
+    let us = t.unexpected;
+    let found = all_found(es, us, scan);
+    (t.size <= sizes::MEMORY) & scan.sound & found
 }
