@@ -5,8 +5,13 @@
 use crate::layout::EventReply;
 use crate::layout::Reply;
 use crate::replied;
+use crate::told;
+use inplace::tests;
 use matching::layout::Entry;
 use matching::layout::Request;
+use portals::counters;
+use portals::poll;
+use portals::registers;
 use state::layout::CounterChange;
 use state::layout::CounterTest;
 use state::layout::Settings;
@@ -119,7 +124,9 @@ pub extern "C" fn gussetreed_increment(t: &mut Target, x: CounterChange) -> Repl
 pub extern "C" fn gussetreed_read_counter(t: &Target, k: u64) -> Reply
     ensures { λ r. ⌜ ReadCounterTold (now (t .entry)) k r ⌝ }
 {
-    replied::read_counter(*t, k)
+    let bad = counters::bad_counter_argument(k);
+    let a = tests::admitted(t, bad);
+    told::read_counter(*t, a, k)
 }
 
 // Reads a register, 0 drop, 1 permission, 2 operation: REGISTER.
@@ -127,7 +134,9 @@ pub extern "C" fn gussetreed_read_counter(t: &Target, k: u64) -> Reply
 pub extern "C" fn gussetreed_read_register(t: &Target, k: u64) -> Reply
     ensures { λ r. ⌜ ReadRegisterTold (now (t .entry)) k r ⌝ }
 {
-    replied::read_register(*t, k)
+    let bad = registers::bad_register_argument(k);
+    let a = tests::admitted(t, bad);
+    told::read_register(*t, a, k)
 }
 
 // Tests a counter: READY or NOT_READY.
@@ -135,7 +144,9 @@ pub extern "C" fn gussetreed_read_register(t: &Target, k: u64) -> Reply
 pub extern "C" fn gussetreed_ready(t: &Target, x: CounterTest) -> Reply
     ensures { λ r. ⌜ ReadyTold (now (t .entry)) x r ⌝ }
 {
-    replied::ready(*t, x)
+    let bad = told::bad_test(x);
+    let a = tests::admitted(t, bad);
+    told::ready(*t, a, x)
 }
 
 // Polls a list of counters, each with the test at its place in another list: REACHED or NONE_REACHED.
@@ -143,5 +154,7 @@ pub extern "C" fn gussetreed_ready(t: &Target, x: CounterTest) -> Reply
 pub extern "C" fn gussetreed_poll(t: &Target, ks: &[u64], tests: &[u64]) -> Reply
     ensures { λ r. ⌜ PollTold (now (t .entry)) (now (ks .entry)) (now (tests .entry)) r ⌝ }
 {
-    replied::poll(*t, ks, tests)
+    let bad = poll::bad_poll_argument(ks, tests);
+    let a = tests::admitted(t, bad);
+    told::poll(*t, a, ks, tests)
 }

@@ -15,3 +15,16 @@ pub mod ByPut
 pub mod ByGet
 pub mod ByLookOne
 pub mod ByLookLists
+pub mod Answers
+pub mod AskNone
+pub mod AskOne
+pub mod AskSized
+pub mod AskLists
+pub mod Tests
+pub mod Commits
+pub mod LookTestedOne
+pub mod TestedOne
+pub mod TestedAlone
+pub mod TestedPut
+pub mod TestedGet
+pub mod LookTestedLists
