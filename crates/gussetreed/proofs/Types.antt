@@ -10,7 +10,7 @@ use denote.Struct.Declared as S
 use denote.Struct.Struct.{Plains, AreAll}
 use denote.Struct.Values.{intos}
 use denote.Struct.Laws as laws
-use Rattle.thin.proofs.Forms.{Plain, Done, struct}
+use Rattle.thin.proofs.Forms.{Plain, Done, Told, struct, told}
 use Rattle.host.proofs.Types.{target}
 use Rattle.state.proofs.layout.Target as Target
 use Rattle.state.proofs.layout.Target.Laws as Target′
@@ -18,6 +18,10 @@ use Rattle.gussetreed.proofs.layout.Reply as Reply
 use Rattle.gussetreed.proofs.layout.Reply.Laws as Reply′
 use Rattle.gussetreed.proofs.layout.EventReply as EventReply
 use Rattle.gussetreed.proofs.layout.EventReply.Laws as EventReply′
+use Rattle.inplace.proofs.patch.Patch as Patch
+use Rattle.inplace.proofs.patch.Patch.Laws as Patch′
+use Rattle.gussetreed.proofs.told.Told as Changed
+use Rattle.gussetreed.proofs.told.EventTold as EventChanged
 use Rattle.gussetreed.proofs.replied.Replied as Replied
 use Rattle.gussetreed.proofs.replied.Replied.Laws as Replied′
 use Rattle.gussetreed.proofs.replied.EventReplied as EventReplied
@@ -94,3 +98,15 @@ abbrev pub event-replied : Done
 event-replied =
     done EventReply.the-type EventReply′.the-laws EventReply′.lowers EventReply′.the-plain
     (EventReplied.struct .name) (EventReplied.struct .D) (EventReplied.struct .as-values) (λ v. EventReplied.struct .make v tt) (λ d. refl) (λ v. refl) EventReplied.propositions
+
+-- ## What the calls by a patch hand back
+
+abbrev pub changed : Told
+changed =
+    told Patch.the-type Patch′.the-laws Patch′.lowers Patch′.the-plain Reply.the-type Reply′.the-laws Reply′.lowers Reply′.the-plain
+    (Changed.struct .name) (Changed.struct .D) (Changed.struct .as-values) (λ v. Changed.struct .make v tt) (λ d. refl) (λ v. refl) Changed.propositions
+
+abbrev pub event-changed : Told
+event-changed =
+    told Patch.the-type Patch′.the-laws Patch′.lowers Patch′.the-plain EventReply.the-type EventReply′.the-laws EventReply′.lowers EventReply′.the-plain
+    (EventChanged.struct .name) (EventChanged.struct .D) (EventChanged.struct .as-values) (λ v. EventChanged.struct .make v tt) (λ d. refl) (λ v. refl) EventChanged.propositions

@@ -1,8 +1,8 @@
 -- The types of the calls on a lent target, as the laws of such calls take them: the arguments, the answers, the target, and the states
 -- of the passes over its entries.
 use mathlib.Core.Path.{refl}
-use mir.Syntax.{w8, w16, w64, tyInt, tcons, tnil}
-use mir.Val.{vint, vcons, vnil}
+use mir.Syntax.{w8, w16, w32, w64, tyInt, tyBool, tcons, tnil}
+use mir.Val.{vbool, vint, vcons, vnil}
 use denote.Struct.Declared.{shape}
 use denote.Struct.Struct.{layout}
 use denote.Struct.Laws as LL
@@ -24,6 +24,10 @@ use Rattle.requests.proofs.decision.Decision as Decision
 use Rattle.requests.proofs.decision.Decision.Laws as Decision′
 use Rattle.portals.proofs.admission.Admission as Admission
 use Rattle.portals.proofs.admission.Admission.Laws as Admission′
+use Rattle.inplace.proofs.find.Find as Find
+use Rattle.inplace.proofs.find.Find.Laws as Find′
+use Rattle.inplace.proofs.find.Unlinking as Unlinking
+use Rattle.inplace.proofs.find.Unlinking.Laws as Unlinking′
 use Rattle.inplace.proofs.seek.Asked as Asked
 use Rattle.inplace.proofs.seek.Asked.Laws as Asked′
 use Rattle.inplace.proofs.seek.Seek as Seek
@@ -44,6 +48,9 @@ admission = enum Admission.the-type Admission′.the-laws Admission′.the-plain
 
 abbrev pub decision : Plain
 decision = enum Decision.the-type Decision′.the-laws Decision′.the-plain tt
+
+abbrev pub unlinking : Plain
+unlinking = struct Unlinking.the-type Unlinking′.the-laws Unlinking′.the-plain
 
 -- ## The target
 
@@ -66,4 +73,12 @@ seek =
     vcons (LL.val Scan.the-type Scan′.the-laws (a .scan))
     (vcons (vint w16 (a .portal))
     (vcons (LL.val Arrival.the-type Arrival′.the-laws (a .arrival)) (vcons (vint w8 (a .list)) (vcons (vint w64 (a .place)) (vcons (LL.val HeldEntry.the-type HeldEntry′.the-laws (a .entry)) vnil))))))
+    refl (λ a. refl)
+
+abbrev pub find : Counted
+find =
+    counted Find.the-type Find′.the-laws Find′.the-plain
+    (tcons (layout (shape Scan.the-type)) (tcons (tyInt w32) (tcons tyBool (tcons (tyInt w64) tnil))))
+    (λ a. a .left) (λ a. a .at)
+    (λ a. vcons (LL.val Scan.the-type Scan′.the-laws (a .scan)) (vcons (vint w32 (a .handle)) (vcons (vbool (a .found)) (vcons (vint w64 (a .place)) vnil))))
     refl (λ a. refl)

@@ -1,3 +1,4 @@
 pub mod Patch
 pub mod Decided
 pub mod Seek
+pub mod Find

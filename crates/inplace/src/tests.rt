@@ -1,5 +1,7 @@
 // What is tested of a lent target, where it is: its entries are read one by one.
 use crate::admission;
+use crate::find;
+use crate::find::Unlinking;
 use crate::seek;
 use crate::seek::Asked;
 use matching::refusals::BadArgument;
@@ -11,6 +13,7 @@ ghost use mathlib.Core.List.{_∷_, []};
 ghost use Rattle.portals.specs.Refusals.{goodArguments};
 ghost use Rattle.portals.specs.Admission.{Admits};
 ghost use Rattle.portals.specs.Request.{DecidedAs};
+ghost use Rattle.inplace.specs.Find.{UnlinkTested};
 
 // Whether a call is admitted that tests only its state and its arguments; `bad` is its first bad argument, or none.
 pub fn admitted(t: &Target, bad: BadArgument) -> Admission
@@ -36,4 +39,17 @@ pub fn request_decided(t: &Target, a: Asked) -> Decision
         s = seek::seek_more(s, x);
     }
     seek::seek_decided(*t, s, a)
+}
+
+// Whether an entry is unlinked, and its place.
+pub fn unlink_tested(t: &Target, handle: u32) -> Unlinking
+    ensures { λ r. ⌜ UnlinkTested (now (t .entry)) handle r ⌝ }
+{
+    let mut s = find::find_begun(*t, handle);
+    while s.left != 0 {
+        let at = s.at;
+        let x = t.entries.slots[at];
+        s = find::find_more(s, x);
+    }
+    find::unlink_found(*t, s, handle)
 }
