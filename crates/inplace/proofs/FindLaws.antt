@@ -48,8 +48,7 @@ pub find-turn : (t : Target) (handle : ℕ) (s : Find) → Finding t handle s �
 find-turn t handle s f h =
     let e = getD (t .entries .slots) (s .at) zeroEntry in
     let p = f .pass in
-    let inside = next-inside t (s .scan) (s .at) (s .left) p h in
-    (
+    let inside = next-inside t (s .scan) (s .at) (s .left) p h in (
       inside,
       record {
         pass = pass-turn t (s .scan) (s .at) (s .left) p h;
