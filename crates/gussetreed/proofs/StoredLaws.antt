@@ -1,6 +1,6 @@
 -- A call whose patch is stored keeps its promise.
 use mathlib.Core.Path.{_≡_, refl, sym, ap, _∙_, subst}
-use mathlib.Core.Bool.{Bool, true, false, _&&_, cond}
+use mathlib.Core.Bool.{Bool, true, false, _&&_, not, cond, false≢true}
 use mathlib.Core.List.{List, [], _∷_}
 use Prim.Native.Nat.{ℕ, _+_, _^_, _%_, _≤_, _<_}
 use native.Mathlib.Omega.{arith}
@@ -11,12 +11,15 @@ use Rattle.matching.specs.declared.layout.Request.{Request}
 use Rattle.matching.specs.declared.refusals.BadArgument.the-variants as BadArgument
 use Rattle.matching.specs.declared.request.Kind.{Kind}
 use Rattle.matching.specs.declared.request.Kind.the-variants as Kind
-use Rattle.state.specs.Sizes.{EVENTS, COUNTERS}
-use Rattle.state.specs.View.{queueOf, viewOf}
+use Rattle.state.specs.Sizes.{SLOTS, EVENTS, COUNTERS}
+use Rattle.state.specs.Lists.{any, firstFrom, placeOr}
+use Rattle.state.specs.View.{entriesOf, queueOf, isLinkedAs}
 use Rattle.state.specs.Counters.{plus64, counterAt, increased}
 use Rattle.state.specs.declared.layout.CounterChange.{CounterChange}
 use Rattle.state.specs.declared.layout.Counter.{Counter}
 use Rattle.state.specs.declared.layout.Target.{Target}
+use Rattle.state.specs.Parts.{EntriesFit}
+use Rattle.state.proofs.SlotLaws.{place-first, place-inside}
 use Rattle.state.proofs.PostLaws.{popped-by}
 use Rattle.requests.specs.Plan.{bytesPut, bytesGot}
 use Rattle.requests.specs.Decision.{ifDelivered}
@@ -28,6 +31,7 @@ use Rattle.portals.specs.Refusals.{goodArguments}
 use Rattle.portals.specs.Admission.{byAdmission, isAdmitted, Admits}
 use Rattle.portals.specs.Answers.{DONE, refused, plainAnswer, requestAnswer, eventAnswer}
 use Rattle.portals.specs.CounterCalls.{badCounterArgument, counterTests}
+use Rattle.portals.specs.EarlyMessages.{EntriesUnlinked}
 use Rattle.portals.specs.EventRead.{oldestOf}
 use Rattle.portals.specs.Request.{answerBy, DecidedAs}
 use Rattle.portals.specs.declared.admission.Admission.{Admission}
@@ -35,15 +39,17 @@ use Rattle.portals.specs.declared.admission.Admission.the-variants as Admission
 use Rattle.portals.specs.declared.answers.PlainAnswer.{PlainAnswer}
 use Rattle.portals.specs.declared.answers.EventAnswer.{EventAnswer}
 use Rattle.portals.specs.declared.answers.RequestAnswer.{RequestAnswer}
-use Rattle.portals.proofs.AdmitLaws.{counter-inside, admitted-is}
-use Rattle.portals.proofs.PartCalls.{set-met, increment-met, read-event-met}
+use Rattle.portals.proofs.AdmitLaws.{counter-inside, admitted-is, handle-linked}
+use Rattle.portals.proofs.PartCalls.{set-met, increment-met, read-event-met, unlinked-at, unlink-met}
 use Rattle.portals.proofs.RequestCalls.{parts-asked}
 use Rattle.portals.proofs.RequestMet.{put-met, get-met}
-use Rattle.inplace.specs.Patch.{countsOf, counterChange, eventTaken, takenFrom, queuePatched, countersPatched, Patched}
+use Rattle.inplace.specs.Patch.{countsOf, counterChange, entryGone, eventTaken, takenFrom, queuePatched, countersPatched, Patched}
 use Rattle.inplace.specs.Decided.{requestPatch}
-use Rattle.inplace.proofs.ChangeLaws.{counter-changed, counter-fits, changed-slots, event-changed, event-fits}
+use Rattle.inplace.specs.Find.{UnlinkTested}
+use Rattle.inplace.specs.declared.find.Unlinking.{Unlinking}
+use Rattle.inplace.proofs.ChangeLaws.{counter-changed, counter-fits, changed-slots, entry-changed, event-changed, event-fits}
 use Rattle.inplace.proofs.DecidedLaws.{request-after, request-fits}
-use Rattle.gussetreed.specs.Replies.{replyOf, eventReplyOf, PutTold, GetTold, ReadEventTold, SetCounterTold, IncrementTold}
+use Rattle.gussetreed.specs.Replies.{replyOf, eventReplyOf, UnlinkTold, PutTold, GetTold, ReadEventTold, SetCounterTold, IncrementTold}
 use Rattle.gussetreed.specs.Stored.{Stored, changeOf}
 use Rattle.gussetreed.specs.declared.layout.Reply.{Reply}
 use Rattle.gussetreed.specs.declared.layout.EventReply.{EventReply}
@@ -84,6 +90,50 @@ module _ (t : Target) (a : Admission) (x : CounterChange) (done : PlainAnswer) (
       told = told;
     };
   }
+
+-- ## Unlink
+
+pub unlink-stored : (t : Target) (handle : ℕ) (u : Unlinking) (unlinks : Bool) (done : PlainAnswer) (reply : Reply)
+    → UnlinkTested t handle u
+    → unlinks ≡ isAdmitted (u .a)
+    → plainAnswer done ≡ byAdmission refused DONE (u .a)
+    → reply ≡ replyOf (plainAnswer done)
+    → Stored t (entryGone (countsOf t) unlinks (u .at)) (λ v. UnlinkTold t handle (record { target = v; answer = reply }))
+unlink-stored t handle u unlinks done reply tested is answers told = record {
+  fits = record {
+    entry = mod-lt (u .at) (omega arith);
+    header = omega arith;
+    first = omega arith;
+    second = omega arith;
+    counter = omega arith;
+    goes = λ e. (linked e .0, rw (same e) (inside e), refl, refl);
+  };
+  met = λ v s. record {
+    answer = done;
+    met = rw (entry-changed t v unlinks (u .at) s)
+        (unlink-met t handle (v .entries) (plainAnswer done) (u .a) unlinks (tested .admits) answers is (gone v s unlinks refl));
+    told = told;
+  };
+}
+  where
+    linked : unlinks ≡ true → EntriesFit (t .entries) × (any (isLinkedAs handle) (entriesOf (t .entries)) ≡ true)
+    linked e = handle-linked handle t (u .a) unlinks (tested .admits) is e
+
+    place : unlinks ≡ true → u .at ≡ placeOr (t .entries .count) (firstFrom (isLinkedAs handle) 0 (entriesOf (t .entries)))
+    place e = tested .place (admitted-is (u .a) (sym is ∙ e))
+
+    inside : unlinks ≡ true → u .at < t .entries .count
+    inside e = place-inside (isLinkedAs handle) (linked e .0) (u .at) (place e) (linked e .1)
+
+    same : unlinks ≡ true → u .at % SLOTS ≡ u .at
+    same e =
+        let room : t .entries .count ≤ SLOTS = linked e .0 .room in
+        let h : u .at < t .entries .count = inside e in
+        mod-eq-of-lt (omega arith)
+
+    gone : (v : Target) → Patched t (entryGone (countsOf t) unlinks (u .at)) v → (b : Bool) → unlinks ≡ b → EntriesUnlinked (t .entries) unlinks handle (v .entries)
+    gone v s true e = unlinked-at (t .entries) unlinks handle (v .entries) (u .at) (ap not e) (place-first (isLinkedAs handle) (linked e .0) (u .at) (place e) (linked e .1)) (rw (← same e) (s .entries .removed e))
+    gone v s false e = record { without = λ h. absurd (false≢true (sym e ∙ h)); kept = λ h. s .entries .kept e }
 
 -- ## The oldest event
 

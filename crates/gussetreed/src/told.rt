@@ -3,6 +3,7 @@ use crate::layout::EventReply;
 use crate::layout::Reply;
 use crate::replies;
 use inplace::decided;
+use inplace::find::Unlinking;
 use inplace::patch;
 use inplace::patch::CounterPatch;
 use inplace::patch::Patch;
@@ -31,7 +32,8 @@ ghost use Rattle.portals.specs.Refusals.{goodArguments};
 ghost use Rattle.portals.specs.Admission.{Admits};
 ghost use Rattle.portals.specs.CounterCalls.{badCounterArgument, badRegisterArgument, badPollArgument, counterTests};
 ghost use Rattle.portals.specs.Request.{DecidedAs};
-ghost use Rattle.gussetreed.specs.Replies.{PutTold, GetTold, ReadEventTold, SetCounterTold, IncrementTold, ReadCounterTold, ReadRegisterTold, ReadyTold, PollTold};
+ghost use Rattle.inplace.specs.Find.{UnlinkTested};
+ghost use Rattle.gussetreed.specs.Replies.{UnlinkTold, PutTold, GetTold, ReadEventTold, SetCounterTold, IncrementTold, ReadCounterTold, ReadRegisterTold, ReadyTold, PollTold};
 ghost use Rattle.gussetreed.specs.Stored.{Stored, changeOf};
 
 // What a call changes, and its answer.
@@ -112,6 +114,28 @@ pub fn get(t: Target, d: Decision, memory: &[u8], q: Request, buffer: &mut [u8])
     let p = decided::request_patch(c, d);
     let a = put_get::answer_by(d, Kind::Get, q.ack);
     let answer = replies::request_reply(a);
+    Told { patch: p, answer }
+}
+
+// ## Unlink
+
+// A handle is tested as it is.
+pub fn handle_asked(handle: u32) -> u32
+    ensures { λ r. ⌜ r ≡ handle ⌝ }
+{
+    handle
+}
+
+pub fn unlink(t: Target, u: Unlinking, handle: u32) -> Told
+    requires { ⌜ UnlinkTested t handle u ⌝ }
+    ensures { λ r. ⌜ Stored t (r .patch) (λ v. UnlinkTold t handle (record { target = v; answer = r .answer })) ⌝ }
+{
+    let a = u.a;
+    let unlinks = admission::is_admitted(a);
+    let c = patch::counts_of(t);
+    let p = patch::entry_gone(c, unlinks, u.at);
+    let done = admission::answer_plain(a);
+    let answer = replies::plain_reply(done);
     Told { patch: p, answer }
 }
 

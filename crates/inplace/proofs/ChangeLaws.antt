@@ -74,3 +74,17 @@ event-changed t u takes s = parts-same u _ (s .size) (s .last) (s .entries .kept
 
 pub event-fits : (t : Target) (takes : Bool) → PatchFits t (eventTaken (countsOf t) takes)
 event-fits t takes = record { entry = omega arith; header = omega arith; first = omega arith; second = omega arith; counter = omega arith; goes = λ e. absurd (false≢true e) }
+
+-- ## One entry
+
+pub entry-changed : (t u : Target) (goes : Bool) (at : ℕ) → Patched t (entryGone (countsOf t) goes at) u
+    → u ≡ record {
+      size = t .size;
+      last = t .last;
+      entries = u .entries;
+      unexpected = t .unexpected;
+      queue = t .queue;
+      counters = t .counters;
+      registers = t .registers;
+    }
+entry-changed t u goes at s = parts-same u _ (s .size) (s .last) refl (s .unexpected) (s .queue) (s .counters) (s .registers)

@@ -107,7 +107,7 @@ delivery-fits t p allow =
       first = mod-lt _ (omega arith);
       second = mod-lt _ (omega arith);
       counter = mod-lt (p .entry .entry .counter) (omega arith);
-      goes = λ e. (allow .fits .entries, inside);
+      goes = λ e. (allow .fits .entries, inside, ap not e, refl);
     }
 
 pub request-fits : (t : Target) (d : Decision) → OfDelivery (PartsAllow t) d → PatchFits t (requestPatch (countsOf t) d)

@@ -75,14 +75,14 @@ pub record Patched (t : Target) (p : Patch) (t′ : Target) : Type 0 where
   pub counters : t′ .counters ≡ countersPatched (p .counter) (t .counters)
   pub registers : t′ .registers ≡ p .registers
 
--- it can be stored: every place is one of its array's, and an entry that goes is one in use
+-- it can be stored: every place is one of its array's, and an entry that goes is one in use, from entries that are as they were
 pub record PatchFits (t : Target) (p : Patch) : Type 0 where
   pub entry : p .entry .at < SLOTS
   pub header : p .header .at < HEADERS
   pub first : p .queue .firstat < EVENTS
   pub second : p .queue .secondat < EVENTS
   pub counter : p .counter .at < COUNTERS
-  pub goes : p .entry .removes ≡ true → EntriesFit (t .entries) × (p .entry .at < t .entries .count)
+  pub goes : p .entry .removes ≡ true → EntriesFit (t .entries) × (p .entry .at < t .entries .count) × (p .entry .stores ≡ false) × (p .entry .count ≡ t .entries .count)
 
 -- ## Patches that change nothing
 
