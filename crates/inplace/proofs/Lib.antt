@@ -1,3 +1,12 @@
+pub mod Items
+pub mod Stores
+pub mod Moves
+pub mod Places
+pub mod Known
+pub mod AskTwo
+pub mod CounterStep
+pub mod RemovalStep
+pub mod Steps
 pub mod PatchLaws
 pub mod DecidedLaws
 pub mod ChangeLaws
