@@ -6,6 +6,7 @@ use crate::layout::EventReply;
 use crate::layout::Reply;
 use crate::replied;
 use crate::told;
+use inplace::commit;
 use inplace::tests;
 use matching::layout::Entry;
 use matching::layout::Request;
@@ -44,8 +45,10 @@ pub extern "C" fn gussetreed_append(t: &mut Target, e: Entry) -> Reply
 pub extern "C" fn gussetreed_unlink(t: &mut Target, handle: u32) -> Reply
     ensures { λ r. ⌜ UnlinkTold (now (t .entry)) handle (record { target = now (t .exit); answer = r }) ⌝ }
 {
-    let r = replied::unlink(*t, handle);
-    *t = r.target;
+    let asked = told::handle_asked(handle);
+    let u = tests::unlink_tested(t, asked);
+    let r = told::unlink(*t, u, handle);
+    commit::commit(t, r.patch);
     r.answer
 }
 
@@ -69,8 +72,10 @@ pub extern "C" fn gussetreed_put(
 ) -> Reply
     ensures { λ r. ⌜ PutTold (now (t .entry)) (now (memory .entry)) q (now (payload .entry)) (record { target = now (t .exit); answer = r }) (now (memory .exit)) ⌝ }
 {
-    let r = replied::put(*t, memory, q, payload);
-    *t = r.target;
+    let asked = told::put_asked(q, memory.len(), payload.len());
+    let d = tests::request_decided(t, asked);
+    let r = told::put(*t, d, memory, q, payload);
+    commit::commit(t, r.patch);
     r.answer
 }
 
@@ -84,8 +89,10 @@ pub extern "C" fn gussetreed_get(
 ) -> Reply
     ensures { λ r. ⌜ GetTold (now (t .entry)) (now (memory .entry)) q (now (buffer .entry)) (record { target = now (t .exit); answer = r }) (now (buffer .exit)) ⌝ }
 {
-    let r = replied::get(*t, memory, q, buffer);
-    *t = r.target;
+    let asked = told::get_asked(q, memory.len(), buffer.len());
+    let d = tests::request_decided(t, asked);
+    let r = told::get(*t, d, memory, q, buffer);
+    commit::commit(t, r.patch);
     r.answer
 }
 
@@ -94,8 +101,10 @@ pub extern "C" fn gussetreed_get(
 pub extern "C" fn gussetreed_read_event(t: &mut Target) -> EventReply
     ensures { λ r. ⌜ ReadEventTold (now (t .entry)) (record { target = now (t .exit); answer = r }) ⌝ }
 {
-    let r = replied::read_event(*t);
-    *t = r.target;
+    let bad = told::none_bad();
+    let a = tests::admitted(t, bad);
+    let r = told::read_event(*t, a);
+    commit::commit(t, r.patch);
     r.answer
 }
 
@@ -104,8 +113,10 @@ pub extern "C" fn gussetreed_read_event(t: &mut Target) -> EventReply
 pub extern "C" fn gussetreed_set_counter(t: &mut Target, x: CounterChange) -> Reply
     ensures { λ r. ⌜ SetCounterTold (now (t .entry)) x (record { target = now (t .exit); answer = r }) ⌝ }
 {
-    let r = replied::set_counter(*t, x);
-    *t = r.target;
+    let bad = told::bad_change(x);
+    let a = tests::admitted(t, bad);
+    let r = told::set_counter(*t, a, x);
+    commit::commit(t, r.patch);
     r.answer
 }
 
@@ -114,8 +125,10 @@ pub extern "C" fn gussetreed_set_counter(t: &mut Target, x: CounterChange) -> Re
 pub extern "C" fn gussetreed_increment(t: &mut Target, x: CounterChange) -> Reply
     ensures { λ r. ⌜ IncrementTold (now (t .entry)) x (record { target = now (t .exit); answer = r }) ⌝ }
 {
-    let r = replied::increment(*t, x);
-    *t = r.target;
+    let bad = told::bad_change(x);
+    let a = tests::admitted(t, bad);
+    let r = told::increment(*t, a, x);
+    commit::commit(t, r.patch);
     r.answer
 }
 

@@ -12,5 +12,6 @@ pub mod DecidedLaws
 pub mod ChangeLaws
 pub mod SeekLaws
 pub mod FindLaws
+pub mod AdmissionLaws
 pub mod Types
 pub mod Slots

@@ -33,7 +33,7 @@ use Rattle.requests.specs.declared.decision.Decision.{Decision}
 use Rattle.requests.specs.declared.decision.Decision.the-variants as Decision
 use Rattle.requests.proofs.ChoiceLaws.{Trying, trying, trying-more, tried, tried-none}
 use Rattle.requests.proofs.DeliverableLaws.{place-asked, decides}
-use Rattle.inplace.specs.Seek.{standsBefore, isBetter, seenAs, seekMore, firstIn, BestSoFar, Seeking, decideBest, decideFound}
+use Rattle.inplace.specs.Seek.{standsBefore, isBetter, seenAs, seekMore, firstIn, BestSoFar, Seeking, Sought, decideBest, decideFound}
 use Rattle.inplace.specs.declared.seek.Asked.{Asked}
 use Rattle.inplace.specs.declared.seek.Seek.{Seek}
 
@@ -112,13 +112,12 @@ module _ (entries : List HeldEntry) (s : Seek) (x : HeldEntry) (inside : s .at <
               ∙ first-hit (isCandidate (s .portal) (x .entry .list) (s .arrival)) entries (s .at) zeroEntry inside
               (rw (← is) (better-candidate s x b));
           inside = inside;
-          entry = is;
         };
       }
   best-more false b = record {
     within = f .within;
     ahead = λ list h. ahead-more list h (no-earlier s x b list h);
-    best = λ h. let b = f .best h in record { first = b .first; inside = b .inside; entry = b .entry };
+    best = λ h. let b = f .best h in record { first = b .first; inside = b .inside };
   }
 
 -- ## A turn of the pass
@@ -164,14 +163,18 @@ trying-at entries portal a (suc list) h e =
     rw (← add-one list)
     (trying-more entries portal a (trying-at entries portal a list (omega arith) (λ l k. e l (omega arith))) (omega arith) (e list (omega arith)))
 
-module _ (t : Target) (x : Asked) (s : Seek) (f : Seeking t x s) (done : s .left ≡ 0) (fits : TargetFits t) (sound : isSound t ≡ true) where
+module _ (t : Target) (x : Asked) (s : Seek) (v : HeldEntry) (end : Sought t x s v) (fits : TargetFits t) (sound : isSound t ≡ true) where
+  f : Seeking t x s
+  f = end .seeking
+
   found-best : BestSoFar (entriesOf (t .entries)) s
   found-best = f .found (f .pass .scan .kept ∙ sound-parts t sound .0)
 
   -- every entry has been seen
   all-seen : length (entriesOf (t .entries)) ≤ s .at
   all-seen =
-      let end : s .at + s .left ≡ t .entries .count = f .pass .going (f .pass .scan .kept ∙ sound-parts t sound .0) in
+      let done : s .left ≡ 0 = end .done in
+      let seen : s .at + s .left ≡ t .entries .count = f .pass .going (f .pass .scan .kept ∙ sound-parts t sound .0) in
       rw (in-use (fits .entries)) (omega arith)
 
   tried-lists : Trying (entriesOf (t .entries)) (s .portal) (s .arrival) (s .list)
@@ -186,37 +189,44 @@ module _ (t : Target) (x : Asked) (s : Seek) (f : Seeking t x s) (done : s .left
         let within : s .list ≤ 2 = found-best .within in
         omega (arith, some)
 
+    -- it is the one that stands at the best place
+    best-entry : v ≡ entryAt (entriesOf (t .entries)) (s .place)
+    best-entry =
+        let long : length (entriesOf (t .entries)) ≡ t .entries .count = in-use (fits .entries) in
+        let inside : s .place < length (entriesOf (t .entries)) = found-best .best one-found .inside in
+        let room : t .entries .count ≤ SLOTS = fits .entries .room in
+        let low : s .place < SLOTS = omega arith in
+        end .entry ∙ rw (mod-eq-of-lt low) (sym (getD-take (t .entries .count) (t .entries .slots) (s .place) zeroEntry (omega arith)))
+
     -- it can be asked
-    pub best-bounded : Bounded (s .entry)
-    best-bounded =
-        let b = found-best .best one-found in
-        rw (b .entry) (place-asked t (s .place) fits sound (b .inside) .1 .1)
+    pub best-bounded : Bounded v
+    best-bounded = rw best-entry (place-asked t (s .place) fits sound (found-best .best one-found .inside) .1 .1)
 
     -- it is the chosen one
     best-chosen : choose (entriesOf (t .entries)) (s .portal) (s .arrival) ≡ choiceIn (s .list) (s .place)
     best-chosen = tried _ _ _ tried-lists one-found (found-best .best one-found .first)
 
-    best-asked : decideBest s (t .unexpected .count) ≡ decideAt (entriesOf (t .entries)) (headersOf (t .unexpected)) (s .portal) (s .arrival) (s .place)
-    best-asked = rw (found-best .best one-found .entry, in-use (fits .unexpected))
+    best-asked : decideBest s v (t .unexpected .count) ≡ decideAt (entriesOf (t .entries)) (headersOf (t .unexpected)) (s .portal) (s .arrival) (s .place)
+    best-asked = rw (best-entry, in-use (fits .unexpected))
 
-    best-decides : Decides t (s .portal) (s .arrival) (decideBest s (t .unexpected .count))
+    best-decides : Decides t (s .portal) (s .arrival) (decideBest s v (t .unexpected .count))
     best-decides =
         let entries = entriesOf (t .entries) in
         let headers = headersOf (t .unexpected) in
         decides t (s .portal) (s .arrival) fits sound (choiceIn (s .list) (s .place)) _ best-chosen
-        (cond-cases (λ c. decideBest s (t .unexpected .count) ≡ decideOn entries headers (s .portal) (s .arrival) c) (eqb (s .list) 0)
+        (cond-cases (λ c. decideBest s v (t .unexpected .count) ≡ decideOn entries headers (s .portal) (s .arrival) c) (eqb (s .list) 0)
         (Choice.Priority (s .place)) (Choice.Overflow (s .place)) (λ e. best-asked) (λ e. best-asked))
 
   -- what was found decides
-  found-decides : (d : Decision) → d ≡ decideFound s (t .unexpected .count) → Decides t (s .portal) (s .arrival) d
+  found-decides : (d : Decision) → d ≡ decideFound s v (t .unexpected .count) → Decides t (s .portal) (s .arrival) d
   found-decides d is =
       rw is
-      (cond-cases (Decides t (s .portal) (s .arrival)) (eqb (s .list) 2) Decision.Drop (decideBest s (t .unexpected .count))
+      (cond-cases (Decides t (s .portal) (s .arrival)) (eqb (s .list) 2) Decision.Drop (decideBest s v (t .unexpected .count))
       (λ e. decides t (s .portal) (s .arrival) fits sound Choice.Nothing Decision.Drop (tried-none _ _ _ tried-lists (eqb-true _ _ e)) refl)
       (λ e. best-decides (eqb-false _ _ e)))
 
   -- the request as it was asked, whose length is no longer than its number can say
-  pub asked-decides : (d : Decision) → x .requested ≤ 65536 → d ≡ decideFound s (t .unexpected .count)
+  pub asked-decides : (d : Decision) → x .requested ≤ 65536 → d ≡ decideFound s v (t .unexpected .count)
       → Decides t (x .q .portal) (arrivalOf (x .q) (x .kind) (x .requested)) d
   asked-decides d h e =
       let short : x .requested < 4294967296 = omega arith in

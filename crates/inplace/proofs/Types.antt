@@ -12,8 +12,6 @@ use Rattle.matching.proofs.refusals.BadArgument as BadArgument
 use Rattle.matching.proofs.refusals.BadArgument.Laws as BadArgument′
 use Rattle.matching.proofs.request.Arrival as Arrival
 use Rattle.matching.proofs.request.Arrival.Laws as Arrival′
-use Rattle.state.proofs.layout.HeldEntry as HeldEntry
-use Rattle.state.proofs.layout.HeldEntry.Laws as HeldEntry′
 use Rattle.state.proofs.layout.Target as Target
 use Rattle.state.proofs.layout.Target.Laws as Target′
 use Rattle.state.proofs.soundness.Scan as Scan
@@ -28,6 +26,8 @@ use Rattle.inplace.proofs.find.Find as Find
 use Rattle.inplace.proofs.find.Find.Laws as Find′
 use Rattle.inplace.proofs.find.Unlinking as Unlinking
 use Rattle.inplace.proofs.find.Unlinking.Laws as Unlinking′
+use Rattle.inplace.proofs.oldest.Oldest as Oldest
+use Rattle.inplace.proofs.oldest.Oldest.Laws as Oldest′
 use Rattle.inplace.proofs.seek.Asked as Asked
 use Rattle.inplace.proofs.seek.Asked.Laws as Asked′
 use Rattle.inplace.proofs.seek.Seek as Seek
@@ -45,6 +45,9 @@ asked = struct Asked.the-type Asked′.the-laws Asked′.the-plain
 
 abbrev pub admission : Plain
 admission = enum Admission.the-type Admission′.the-laws Admission′.the-plain tt
+
+abbrev pub oldest-event : Plain
+oldest-event = struct Oldest.the-type Oldest′.the-laws Oldest′.the-plain
 
 abbrev pub decision : Plain
 decision = enum Decision.the-type Decision′.the-laws Decision′.the-plain tt
@@ -67,12 +70,12 @@ pass =
 abbrev pub seek : Counted
 seek =
     counted Seek.the-type Seek′.the-laws Seek′.the-plain
-    (tcons (layout (shape Scan.the-type)) (tcons (tyInt w16) (tcons (layout (shape Arrival.the-type)) (tcons (tyInt w8) (tcons (tyInt w64) (tcons (layout (shape HeldEntry.the-type)) tnil))))))
+    (tcons (layout (shape Scan.the-type)) (tcons (tyInt w16) (tcons (layout (shape Arrival.the-type)) (tcons (tyInt w8) (tcons (tyInt w64) tnil)))))
     (λ a. a .left) (λ a. a .at)
     (λ a.
     vcons (LL.val Scan.the-type Scan′.the-laws (a .scan))
     (vcons (vint w16 (a .portal))
-    (vcons (LL.val Arrival.the-type Arrival′.the-laws (a .arrival)) (vcons (vint w8 (a .list)) (vcons (vint w64 (a .place)) (vcons (LL.val HeldEntry.the-type HeldEntry′.the-laws (a .entry)) vnil))))))
+    (vcons (LL.val Arrival.the-type Arrival′.the-laws (a .arrival)) (vcons (vint w8 (a .list)) (vcons (vint w64 (a .place)) vnil)))))
     refl (λ a. refl)
 
 abbrev pub find : Counted

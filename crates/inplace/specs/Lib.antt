@@ -2,3 +2,4 @@ pub mod Patch
 pub mod Decided
 pub mod Seek
 pub mod Find
+pub mod Oldest

@@ -5,12 +5,12 @@ use mathlib.Core.List.{List}
 use mathlib.Core.Option.{Option, some}
 use Prim.Native.Nat.{ℕ, _+_, _-_, _%_, _≤_, _<_}
 use lib.Dec.{eqb, ltb}
-use lib.ListN.{length, drop}
+use lib.ListN.{length, drop, getD}
 use Rattle.matching.specs.Request.{arrivalOf, matches, verdictOn}
 use Rattle.matching.specs.EarlyMessages.{takesHeaders}
 use Rattle.state.specs.Sizes.{SLOTS, HEADERS}
 use Rattle.state.specs.Lists.{firstFrom}
-use Rattle.state.specs.View.{isLinked, entriesOf, entryAt}
+use Rattle.state.specs.View.{isLinked, entriesOf, zeroEntry}
 use Rattle.state.specs.Parts.{scanMore, Passing}
 use Rattle.state.specs.declared.layout.HeldEntry.{HeldEntry}
 use Rattle.state.specs.declared.layout.Target.{Target}
@@ -42,7 +42,6 @@ seenAs better s x = record {
   arrival = s .arrival;
   list = cond better (x .entry .list) (s .list);
   place = cond better (s .at) (s .place);
-  entry = cond better x (s .entry);
 }
 
 abbrev pub seekMore : Seek → HeldEntry → Seek
@@ -58,7 +57,6 @@ firstIn s entries list i = firstFrom (isCandidate (s .portal) list (s .arrival))
 pub record Best (entries : List HeldEntry) (s : Seek) : Type 0 where
   pub first : firstIn s entries (s .list) 0 ≡ some (s .place)
   pub inside : s .place < length entries
-  pub entry : s .entry ≡ entryAt entries (s .place)
 
 -- of a pass that has seen the entries before s .at: the lists before the best one's have no candidate there
 pub record BestSoFar (entries : List HeldEntry) (s : Seek) : Type 0 where
@@ -73,13 +71,19 @@ pub record Seeking (t : Target) (x : Asked) (s : Seek) : Type 0 where
   pub arrival : s .arrival ≡ arrivalOf (x .q) (x .kind) (x .requested % 4294967296)
   pub found : s .scan .kept ≡ true → BestSoFar (entriesOf (t .entries)) s
 
+-- the pass has seen every entry, and v stands at the best one's place
+pub record Sought (t : Target) (x : Asked) (s : Seek) (v : HeldEntry) : Type 0 where
+  pub seeking : Seeking t x s
+  pub done : s .left ≡ 0
+  pub entry : v ≡ getD (t .entries .slots) (s .place % SLOTS) zeroEntry
+
 -- ## The decision
 
--- on the best entry, where so many headers wait
-abbrev pub decideBest : Seek → ℕ → Decision
-decideBest s waiting =
-    decideBy (verdictOn (s .entry .entry) (s .arrival)) (not (takesHeaders (s .entry .entry)) || ltb waiting HEADERS)
-    (planFor (s .entry) (s .place) (s .portal) (s .arrival))
+-- on the best entry v, where so many headers wait
+abbrev pub decideBest : Seek → HeldEntry → ℕ → Decision
+decideBest s v waiting =
+    decideBy (verdictOn (v .entry) (s .arrival)) (not (takesHeaders (v .entry)) || ltb waiting HEADERS)
+    (planFor v (s .place) (s .portal) (s .arrival))
 
-abbrev pub decideFound : Seek → ℕ → Decision
-decideFound s waiting = cond (eqb (s .list) 2) Decision.Drop (decideBest s waiting)
+abbrev pub decideFound : Seek → HeldEntry → ℕ → Decision
+decideFound s v waiting = cond (eqb (s .list) 2) Decision.Drop (decideBest s v waiting)

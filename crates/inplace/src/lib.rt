@@ -3,6 +3,7 @@ pub mod admission;
 pub mod commit;
 pub mod decided;
 pub mod find;
+pub mod oldest;
 pub mod patch;
 pub mod seek;
 pub mod tests;

@@ -15,9 +15,11 @@ use state::sizes;
 use state::soundness;
 use state::soundness::Scan;
 ghost use mathlib.Core.Path.{_≡_};
+ghost use Prim.Native.Nat.{_%_};
+ghost use Rattle.state.specs.Sizes.{SLOTS};
 ghost use Rattle.portals.specs.Request.{DecidedAs};
 ghost use Rattle.requests.specs.Parts.{Bounded};
-ghost use Rattle.inplace.specs.Seek.{isBetter, seekMore, decideFound, Seeking};
+ghost use Rattle.inplace.specs.Seek.{isBetter, seekMore, decideFound, Seeking, Sought};
 
 // A request for so many bytes, with a memory of this size lent.
 pub struct Asked {
@@ -28,7 +30,7 @@ pub struct Asked {
 }
 
 // A pass that looks for the entry that is chosen: the best found so far, by the number of its list (0 priority, 1 overflow, 2 if none
-// was found), its place and what stands there.
+// was found) and its place. What stands there is read when the pass has ended.
 pub struct Seek {
     pub left: usize,
     pub at: usize,
@@ -37,7 +39,6 @@ pub struct Seek {
     pub arrival: Arrival,
     pub list: u8,
     pub place: usize,
-    pub entry: HeldEntry,
 }
 
 // The pass begins.
@@ -57,7 +58,6 @@ pub fn seek_begun(t: Target, x: Asked) -> Seek
         arrival,
         list: 2,
         place: 0,
-        entry: state::empty::zero_entry(),
     }
 }
 
@@ -86,30 +86,35 @@ pub fn seek_more(s: Seek, x: HeldEntry) -> Seek
     if better {
         next.list = x.entry.list;
         next.place = s.at;
-        next.entry = x;
     }
     next
 }
 
-// What becomes of the request: on the entry found, and on it alone. `waiting`: how many headers wait.
-fn found_decided(s: Seek, waiting: usize) -> Decision
-    requires { ⌜ ((s .list ≡ 2 → ⊥) → Bounded (s .entry)) ⌝ }
-    ensures { λ r. ⌜ r ≡ decideFound s waiting ⌝ }
+// Where the best entry stands: a place of the array, also where none was found.
+pub fn seek_place(t: Target, s: Seek) -> usize
+    ensures { λ r. ⌜ r ≡ s .place % SLOTS ⌝ }
+{
+    s.place % sizes::SLOTS
+}
+
+// What becomes of the request: on the entry found, `v`, and on it alone. `waiting`: how many headers wait.
+fn found_decided(s: Seek, v: HeldEntry, waiting: usize) -> Decision
+    requires { ⌜ ((s .list ≡ 2 → ⊥) → Bounded v) ⌝ }
+    ensures { λ r. ⌜ r ≡ decideFound s v waiting ⌝ }
 {
     if s.list == 2 {
         return Decision::Drop;
     }
-    let x = s.entry;
-    let takes = early_messages::takes_headers(x.entry);
+    let takes = early_messages::takes_headers(v.entry);
     let room = !takes | (waiting < sizes::HEADERS);
-    let verdict = request::verdict_on(x.entry, s.arrival);
-    let p = plan::planned(x, s.place, s.portal, s.arrival);
+    let verdict = request::verdict_on(v.entry, s.arrival);
+    let p = plan::planned(v, s.place, s.portal, s.arrival);
     decision::decide_by(verdict, room, p)
 }
 
-// The tests in their order, then the rules: what becomes of the request, by a pass that has seen every entry.
-pub fn seek_decided(t: Target, s: Seek, x: Asked) -> Decision
-    requires { ⌜ Seeking t x s × (s .left ≡ 0) ⌝ }
+// The tests in their order, then the rules: what becomes of the request, by a pass that has seen every entry; `v` stands at its place.
+pub fn seek_decided(t: Target, s: Seek, v: HeldEntry, x: Asked) -> Decision
+    requires { ⌜ Sought t x s v ⌝ }
     ensures { λ r. ⌜ DecidedAs t (x .size) (x .q) (x .kind) (x .requested) r ⌝ }
 {
     let scan = s.scan;
@@ -123,5 +128,5 @@ pub fn seek_decided(t: Target, s: Seek, x: Asked) -> Decision
     if !refusals::none_bad(bad) {
         return Decision::Refuse(Refusal::ArgInvalid);
     }
-    found_decided(s, t.unexpected.count)
+    found_decided(s, v, t.unexpected.count)
 }

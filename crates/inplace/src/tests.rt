@@ -2,6 +2,8 @@
 use crate::admission;
 use crate::find;
 use crate::find::Unlinking;
+use crate::oldest;
+use crate::oldest::Oldest;
 use crate::seek;
 use crate::seek::Asked;
 use matching::refusals::BadArgument;
@@ -14,6 +16,7 @@ ghost use Rattle.portals.specs.Refusals.{goodArguments};
 ghost use Rattle.portals.specs.Admission.{Admits};
 ghost use Rattle.portals.specs.Request.{DecidedAs};
 ghost use Rattle.inplace.specs.Find.{UnlinkTested};
+ghost use Rattle.inplace.specs.Oldest.{OldestAs};
 
 // Whether a call is admitted that tests only its state and its arguments; `bad` is its first bad argument, or none.
 pub fn admitted(t: &Target, bad: BadArgument) -> Admission
@@ -38,7 +41,24 @@ pub fn request_decided(t: &Target, a: Asked) -> Decision
         let x = t.entries.slots[at];
         s = seek::seek_more(s, x);
     }
-    seek::seek_decided(*t, s, a)
+    let i = seek::seek_place(*t, s);
+    let x = t.entries.slots[i];
+    seek::seek_decided(*t, s, x, a)
+}
+
+// Whether a call is admitted that reads the oldest event, and that event.
+pub fn oldest(t: &Target, bad: BadArgument) -> Oldest
+    ensures { λ r. ⌜ OldestAs (now (t .entry)) bad r ⌝ }
+{
+    let mut p = admission::admission_begun(*t, bad);
+    while p.left != 0 {
+        let at = p.at;
+        let x = t.entries.slots[at];
+        p = soundness::pass_more(p, x);
+    }
+    let i = oldest::oldest_place(*t, p);
+    let e = t.queue.slots[i];
+    oldest::oldest_admitted(*t, p, e, bad)
 }
 
 // Whether an entry is unlinked, and its place.

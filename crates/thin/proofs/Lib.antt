@@ -9,6 +9,7 @@ pub mod LookOne
 pub mod LookLists
 pub mod Elements
 pub mod ScanOne
+pub mod ScanRead
 pub mod ByOne
 pub mod ByAlone
 pub mod ByPut

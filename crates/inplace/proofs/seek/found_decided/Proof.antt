@@ -16,7 +16,7 @@ verdict-on-requires c κs = search needs
 
 planned-requires : tie.Need-planned-requires
 planned-requires c κs =
-    let e = c .before .before .before in
+    let e = c .before .before in
     e .before .before .pre (e .if1 .left)
 
 decide-by-requires : tie.Need-decide-by-requires
@@ -27,7 +27,7 @@ returns-2 c =
     let p = c .before in
     let v = p .before in
     let h = v .before in
-    let e = h .before .before in
+    let e = h .before in
     c .decide-by .ensures
     ∙ rw (ne-eqb _ _ (e .if1 .left), p .planned .ensures, v .verdict-on .ensures, h .takes-headers .ensures)
 

@@ -18,13 +18,9 @@ cast-requested c = search needs
 arrival-of-requires : tie.Need-arrival-of-requires
 arrival-of-requires c κs = search needs
 
-zero-entry-requires : tie.Need-zero-entry-requires
-zero-entry-requires c κs = search needs
-
 returns : tie.Need-returns
 returns c =
-    let a = c .before in
-    let n = a .before .before in
+    let n = c .before .before in
     let s = n .before in
     let t = s .before .args .t in
     record {
@@ -32,7 +28,7 @@ returns c =
           pass-begins t (s .scan-begun .result) (n .to-be-seen .result) (s .scan-begun .ensures)
           (λ k. n .to-be-seen .ensures ∙ rw k) (λ k. n .to-be-seen .ensures ∙ rw k);
       portal = refl;
-      arrival = a .arrival-of .ensures;
+      arrival = c .arrival-of .ensures;
       found = λ k. best-begins (entriesOf (t .entries)) _ refl refl;
     }
 
@@ -44,5 +40,4 @@ seek-begun-spec =
     to-be-seen-requires
     cast-requested
     arrival-of-requires
-    zero-entry-requires
     returns)

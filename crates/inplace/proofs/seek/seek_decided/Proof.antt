@@ -39,7 +39,7 @@ scan-sound-requires : tie.Need-scan-sound-requires
 scan-sound-requires c κs =
     let b = c .before in
     let s = b .args .s in
-    pass-done (b .args .t) (s .scan) (s .at) (s .left) (b .pre .0 .pass) (b .pre .1)
+    pass-done (b .args .t) (s .scan) (s .at) (s .left) (b .pre .seeking .pass) (b .pre .done)
 
 returns : tie.Need-returns
 returns c =
@@ -81,7 +81,7 @@ found-decided-requires c κs =
     let e = c .before .before .before .before .before .before in
     let b = e .before .before .before in
     let a = b .args in
-    best-bounded (a .t) (a .x) (a .s) (b .pre .0) (b .pre .1) (fits e) (sound e)
+    best-bounded (a .t) (a .x) (a .s) (a .v) (b .pre) (fits e) (sound e)
 
 returns-4 : tie.Need-returns-4
 returns-4 c =
@@ -93,7 +93,7 @@ returns-4 c =
     let x = a .x in
     let d = c .found-decided .result in
     rules-decided (a .t) (x .size) (x .q) (x .kind) (x .requested) (sound e) d (m .if2 .left) (good l)
-    (asked-decides (a .t) x (a .s) (b .pre .0) (b .pre .1) (fits e) (sound e) d
+    (asked-decides (a .t) x (a .s) (a .v) (b .pre) (fits e) (sound e) d
     (requested-fits (x .q) (x .requested) (good l)) (c .found-decided .ensures))
 
 pub seek-decided-spec : {M : Type 1} → statement M
