@@ -2,6 +2,7 @@
 //
 // A target is lent by a pointer, a slice is a pointer and a length, all else goes by value. What a caller owes is in the header,
 // include/gussetreed.h.
+use crate::early;
 use crate::layout::EventReply;
 use crate::layout::Reply;
 use crate::replied;
@@ -35,6 +36,12 @@ pub extern "C" fn gussetreed_new(place: &mut Target, s: Settings) -> Reply
 pub extern "C" fn gussetreed_append(t: &mut Target, e: Entry) -> Reply
     ensures { λ r. ⌜ AppendTold (now (t .entry)) e (record { target = now (t .exit); answer = r }) ⌝ }
 {
+    let a = tests::append_admitted(t, e);
+    if early::links_alone(*t, a, e) {
+        let r = early::append(*t, a, e);
+        commit::commit(t, r.patch);
+        return r.answer;
+    }
     let r = replied::append(*t, e);
     *t = r.target;
     r.answer
@@ -57,6 +64,12 @@ pub extern "C" fn gussetreed_unlink(t: &mut Target, handle: u32) -> Reply
 pub extern "C" fn gussetreed_search(t: &mut Target, e: Entry) -> Reply
     ensures { λ r. ⌜ SearchTold (now (t .entry)) e (record { target = now (t .exit); answer = r }) ⌝ }
 {
+    let a = tests::search_admitted(t, e);
+    if early::searches_nothing(*t, a, e) {
+        let r = early::search(*t, a, e);
+        commit::commit(t, r.patch);
+        return r.answer;
+    }
     let r = replied::search(*t, e);
     *t = r.target;
     r.answer
@@ -102,8 +115,8 @@ pub extern "C" fn gussetreed_read_event(t: &mut Target) -> EventReply
     ensures { λ r. ⌜ ReadEventTold (now (t .entry)) (record { target = now (t .exit); answer = r }) ⌝ }
 {
     let bad = told::none_bad();
-    let a = tests::admitted(t, bad);
-    let r = told::read_event(*t, a);
+    let first = tests::oldest(t, bad);
+    let r = told::read_event(*t, first);
     commit::commit(t, r.patch);
     r.answer
 }

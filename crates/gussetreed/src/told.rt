@@ -4,6 +4,7 @@ use crate::layout::Reply;
 use crate::replies;
 use inplace::decided;
 use inplace::find::Unlinking;
+use inplace::oldest::Oldest;
 use inplace::patch;
 use inplace::patch::CounterPatch;
 use inplace::patch::Patch;
@@ -13,8 +14,8 @@ use matching::refusals::BadArgument;
 use matching::request::Kind;
 use portals::admission;
 use portals::admission::Admission;
+use portals::answers::EventAnswer;
 use portals::counters;
-use portals::events;
 use portals::poll;
 use portals::put_get;
 use portals::registers;
@@ -24,15 +25,19 @@ use state::layout::CounterChange;
 use state::layout::CounterTest;
 use state::layout::Target;
 ghost use mathlib.Core.Path.{_≡_};
+ghost use mathlib.Core.Bool.{cond};
 ghost use mathlib.Core.List.{_∷_, []};
+ghost use lib.Dec.{eqb};
 ghost use lib.ListN.{length};
 ghost use Rattle.matching.specs.declared.refusals.BadArgument.the-variants as BadArgument;
 ghost use Rattle.matching.specs.declared.request.Kind.the-variants as Kind;
 ghost use Rattle.portals.specs.Refusals.{goodArguments};
-ghost use Rattle.portals.specs.Admission.{Admits};
+ghost use Rattle.portals.specs.Admission.{byAdmission, Admits};
+ghost use Rattle.portals.specs.Answers.{refused, eventAnswer, EVENT, NONE};
 ghost use Rattle.portals.specs.CounterCalls.{badCounterArgument, badRegisterArgument, badPollArgument, counterTests};
 ghost use Rattle.portals.specs.Request.{DecidedAs};
 ghost use Rattle.inplace.specs.Find.{UnlinkTested};
+ghost use Rattle.inplace.specs.Oldest.{OldestAs};
 ghost use Rattle.gussetreed.specs.Replies.{UnlinkTold, PutTold, GetTold, ReadEventTold, SetCounterTold, IncrementTold, ReadCounterTold, ReadRegisterTold, ReadyTold, PollTold};
 ghost use Rattle.gussetreed.specs.Stored.{Stored, changeOf};
 
@@ -141,13 +146,28 @@ pub fn unlink(t: Target, u: Unlinking, handle: u32) -> Told
 
 // ## Events and counters
 
-pub fn read_event(t: Target, a: Admission) -> EventTold
-    requires { ⌜ Admits (λ v. goodArguments BadArgument.None ∷ []) t a ⌝ }
+// What an event read answers: the oldest, of a queue of `count` events.
+fn oldest_answer(first: Oldest, count: usize) -> EventAnswer
+    ensures { λ r. ⌜ eventAnswer r ≡ byAdmission refused (cond (eqb count 0) NONE (EVENT (first .event))) (first .a) ⌝ }
+{
+    match first.a {
+        Admission::Admitted => {
+            if count == 0 {
+                return EventAnswer::Nothing;
+            }
+            EventAnswer::Oldest(first.event)
+        }
+        Admission::Refused(refusal) => EventAnswer::Refused(refusal),
+    }
+}
+
+pub fn read_event(t: Target, first: Oldest) -> EventTold
+    requires { ⌜ OldestAs t BadArgument.None first ⌝ }
     ensures { λ r. ⌜ Stored t (r .patch) (λ u. ReadEventTold t (record { target = u; answer = r .answer })) ⌝ }
 {
-    let q = t.queue;
-    let oldest = events::answer_event(a, q);
-    let takes = admission::is_admitted(a) & (0 < q.count);
+    let count = t.queue.count;
+    let oldest = oldest_answer(first, count);
+    let takes = admission::is_admitted(first.a) & (0 < count);
     let c = patch::counts_of(t);
     let p = patch::event_taken(c, takes);
     let answer = replies::event_reply(oldest);

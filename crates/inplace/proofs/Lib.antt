@@ -13,5 +13,7 @@ pub mod ChangeLaws
 pub mod SeekLaws
 pub mod FindLaws
 pub mod AdmissionLaws
+pub mod UnwalkedLaws
+pub mod UnwalkedMet
 pub mod Types
 pub mod Slots

@@ -8,6 +8,8 @@ use denote.Struct.Struct.{layout}
 use denote.Struct.Laws as LL
 use Rattle.thin.proofs.Forms.{Plain, Lendable, struct, enum}
 use Rattle.thin.proofs.Elements.{Counted, counted}
+use Rattle.matching.proofs.layout.Entry as Entry
+use Rattle.matching.proofs.layout.Entry.Laws as Entry′
 use Rattle.matching.proofs.refusals.BadArgument as BadArgument
 use Rattle.matching.proofs.refusals.BadArgument.Laws as BadArgument′
 use Rattle.matching.proofs.request.Arrival as Arrival
@@ -37,6 +39,9 @@ use Rattle.inplace.proofs.seek.Seek.Laws as Seek′
 
 abbrev pub bad-argument : Plain
 bad-argument = enum BadArgument.the-type BadArgument′.the-laws BadArgument′.the-plain tt
+
+abbrev pub entry : Plain
+entry = struct Entry.the-type Entry′.the-laws Entry′.the-plain
 
 abbrev pub asked : Plain
 asked = struct Asked.the-type Asked′.the-laws Asked′.the-plain

@@ -3,3 +3,4 @@ pub mod Decided
 pub mod Seek
 pub mod Find
 pub mod Oldest
+pub mod Unwalked

@@ -1,5 +1,6 @@
 // Calls on a lent target that work where it is: its entries are read one by one, and what changes is stored in place.
 pub mod admission;
+pub mod append;
 pub mod commit;
 pub mod decided;
 pub mod find;
@@ -7,3 +8,4 @@ pub mod oldest;
 pub mod patch;
 pub mod seek;
 pub mod tests;
+pub mod unwalked;

@@ -1,11 +1,13 @@
 // What is tested of a lent target, where it is: its entries are read one by one.
 use crate::admission;
+use crate::append;
 use crate::find;
 use crate::find::Unlinking;
 use crate::oldest;
 use crate::oldest::Oldest;
 use crate::seek;
 use crate::seek::Asked;
+use matching::layout::Entry;
 use matching::refusals::BadArgument;
 use portals::admission::Admission;
 use requests::decision::Decision;
@@ -14,6 +16,7 @@ use state::soundness;
 ghost use mathlib.Core.List.{_∷_, []};
 ghost use Rattle.portals.specs.Refusals.{goodArguments};
 ghost use Rattle.portals.specs.Admission.{Admits};
+ghost use Rattle.portals.specs.EarlyMessages.{appendTests, searchTests};
 ghost use Rattle.portals.specs.Request.{DecidedAs};
 ghost use Rattle.inplace.specs.Find.{UnlinkTested};
 ghost use Rattle.inplace.specs.Oldest.{OldestAs};
@@ -29,6 +32,32 @@ pub fn admitted(t: &Target, bad: BadArgument) -> Admission
         p = soundness::pass_more(p, x);
     }
     admission::pass_admitted(*t, p, bad)
+}
+
+// Whether an entry is appended.
+pub fn append_admitted(t: &Target, e: Entry) -> Admission
+    ensures { λ r. ⌜ Admits (λ v. appendTests v e) (now (t .entry)) r ⌝ }
+{
+    let mut p = append::append_begun(*t, e);
+    while p.left != 0 {
+        let at = p.at;
+        let x = t.entries.slots[at];
+        p = soundness::pass_more(p, x);
+    }
+    append::append_pass_admitted(*t, p, e)
+}
+
+// Whether the unexpected headers are searched for an entry.
+pub fn search_admitted(t: &Target, e: Entry) -> Admission
+    ensures { λ r. ⌜ Admits (λ v. searchTests v e) (now (t .entry)) r ⌝ }
+{
+    let mut p = append::append_begun(*t, e);
+    while p.left != 0 {
+        let at = p.at;
+        let x = t.entries.slots[at];
+        p = soundness::pass_more(p, x);
+    }
+    append::search_pass_admitted(*t, p, e)
 }
 
 // What becomes of a request.

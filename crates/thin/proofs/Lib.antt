@@ -29,3 +29,4 @@ pub mod TestedAlone
 pub mod TestedPut
 pub mod TestedGet
 pub mod LookTestedLists
+pub mod TestedEither
