@@ -2,4 +2,4 @@ pub mod Telling
 pub mod Types
 pub mod Promised
 pub mod StoredLaws
-pub mod EarlyLaws
+pub mod AloneLaws

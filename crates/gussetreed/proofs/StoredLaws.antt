@@ -5,9 +5,11 @@ use mathlib.Core.List.{List, [], _∷_}
 use Prim.Native.Nat.{ℕ, _+_, _^_, _%_, _≤_, _<_}
 use native.Mathlib.Omega.{arith}
 use native.Mathlib.Nat.{mod-eq-of-lt, mod-lt}
-use lib.Dec.{ltb}
+use lib.Dec.{ltb, eqb}
 use lib.ListN.{length}
+use borrow.Author.Tests.{eqb-true, eqb-false}
 use Rattle.matching.specs.declared.layout.Request.{Request}
+use Rattle.matching.specs.declared.refusals.BadArgument.{BadArgument}
 use Rattle.matching.specs.declared.refusals.BadArgument.the-variants as BadArgument
 use Rattle.matching.specs.declared.request.Kind.{Kind}
 use Rattle.matching.specs.declared.request.Kind.the-variants as Kind
@@ -17,6 +19,8 @@ use Rattle.state.specs.View.{entriesOf, queueOf, isLinkedAs}
 use Rattle.state.specs.Counters.{plus64, counterAt, increased}
 use Rattle.state.specs.declared.layout.CounterChange.{CounterChange}
 use Rattle.state.specs.declared.layout.Counter.{Counter}
+use Rattle.state.specs.declared.layout.Event.{Event}
+use Rattle.state.specs.declared.layout.Queue.{Queue}
 use Rattle.state.specs.declared.layout.Target.{Target}
 use Rattle.state.specs.Parts.{EntriesFit}
 use Rattle.state.proofs.SlotLaws.{place-first, place-inside}
@@ -29,7 +33,7 @@ use Rattle.requests.specs.declared.decision.Decision.{Decision}
 use Rattle.requests.proofs.DecisionLaws.{claim-follows}
 use Rattle.portals.specs.Refusals.{goodArguments}
 use Rattle.portals.specs.Admission.{byAdmission, isAdmitted, Admits}
-use Rattle.portals.specs.Answers.{DONE, refused, plainAnswer, requestAnswer, eventAnswer}
+use Rattle.portals.specs.Answers.{DONE, EVENT, NONE, refused, plainAnswer, requestAnswer, eventAnswer}
 use Rattle.portals.specs.CounterCalls.{badCounterArgument, counterTests}
 use Rattle.portals.specs.EarlyMessages.{EntriesUnlinked}
 use Rattle.portals.specs.EventRead.{oldestOf}
@@ -46,7 +50,9 @@ use Rattle.portals.proofs.RequestMet.{put-met, get-met}
 use Rattle.inplace.specs.Patch.{countsOf, counterChange, entryGone, eventTaken, takenFrom, queuePatched, countersPatched, Patched}
 use Rattle.inplace.specs.Decided.{requestPatch}
 use Rattle.inplace.specs.Find.{UnlinkTested}
+use Rattle.inplace.specs.Oldest.{OldestAs}
 use Rattle.inplace.specs.declared.find.Unlinking.{Unlinking}
+use Rattle.inplace.specs.declared.oldest.Oldest.{Oldest}
 use Rattle.inplace.proofs.ChangeLaws.{counter-changed, counter-fits, changed-slots, entry-changed, event-changed, event-fits}
 use Rattle.inplace.proofs.DecidedLaws.{request-after, request-fits}
 use Rattle.gussetreed.specs.Replies.{replyOf, eventReplyOf, UnlinkTold, PutTold, GetTold, ReadEventTold, SetCounterTold, IncrementTold}
@@ -136,6 +142,19 @@ unlink-stored t handle u unlinks done reply tested is answers told = record {
     gone v s false e = record { without = λ h. absurd (false≢true (sym e ∙ h)); kept = λ h. s .entries .kept e }
 
 -- ## The oldest event
+
+-- what an event read answers is the oldest of the queue, or NONE
+count-tells : (q : Queue) (e : Event) (rest : List Event) → (0 < q .count → queueOf q .events ≡ e ∷ rest) → (none : Bool) → eqb (q .count) 0 ≡ none
+    → cond none NONE (EVENT e) ≡ oldestOf (queueOf q .events)
+count-tells q e rest first true is = rw (eqb-true (q .count) 0 is)
+count-tells q e rest first false is =
+    let some : q .count ≡ 0 → ⊥ = eqb-false (q .count) 0 is in
+    sym (ap oldestOf (first (omega arith)))
+
+pub oldest-told : (t : Target) (bad : BadArgument) (o : Oldest) → OldestAs t bad o → (a : Admission) → o .a ≡ a
+    → byAdmission refused (cond (eqb (t .queue .count) 0) NONE (EVENT (o .event))) a ≡ byAdmission refused (oldestOf (queueOf (t .queue) .events)) a
+oldest-told t bad o reads Admission.Admitted is = count-tells (t .queue) (o .event) _ (λ some. reads .first is some) (eqb (t .queue .count) 0) refl
+oldest-told t bad o reads (Admission.Refused r) is = refl
 
 pub read-event-stored : (t : Target) (a : Admission) (oldest : EventAnswer) (takes : Bool) (reply : EventReply)
     → Admits (λ v. goodArguments BadArgument.None ∷ []) t a

@@ -1,3 +1,3 @@
 pub mod Replies
 pub mod Stored
-pub mod Early
+pub mod Alone

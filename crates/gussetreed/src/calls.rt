@@ -2,7 +2,7 @@
 //
 // A target is lent by a pointer, a slice is a pointer and a length, all else goes by value. What a caller owes is in the header,
 // include/gussetreed.h.
-use crate::early;
+use crate::alone;
 use crate::layout::EventReply;
 use crate::layout::Reply;
 use crate::replied;
@@ -37,8 +37,8 @@ pub extern "C" fn gussetreed_append(t: &mut Target, e: Entry) -> Reply
     ensures { λ r. ⌜ AppendTold (now (t .entry)) e (record { target = now (t .exit); answer = r }) ⌝ }
 {
     let a = tests::append_admitted(t, e);
-    if early::links_alone(*t, a, e) {
-        let r = early::append(*t, a, e);
+    if alone::links_alone(*t, a, e) {
+        let r = alone::append(*t, a, e);
         commit::commit(t, r.patch);
         return r.answer;
     }
@@ -65,8 +65,8 @@ pub extern "C" fn gussetreed_search(t: &mut Target, e: Entry) -> Reply
     ensures { λ r. ⌜ SearchTold (now (t .entry)) e (record { target = now (t .exit); answer = r }) ⌝ }
 {
     let a = tests::search_admitted(t, e);
-    if early::searches_nothing(*t, a, e) {
-        let r = early::search(*t, a, e);
+    if alone::searches_nothing(*t, a, e) {
+        let r = alone::search(*t, a, e);
         commit::commit(t, r.patch);
         return r.answer;
     }

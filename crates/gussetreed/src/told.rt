@@ -23,6 +23,7 @@ use requests::bytes;
 use requests::decision::Decision;
 use state::layout::CounterChange;
 use state::layout::CounterTest;
+use state::layout::Event;
 use state::layout::Target;
 ghost use mathlib.Core.Path.{_≡_};
 ghost use mathlib.Core.Bool.{cond};
@@ -146,16 +147,16 @@ pub fn unlink(t: Target, u: Unlinking, handle: u32) -> Told
 
 // ## Events and counters
 
-// What an event read answers: the oldest, of a queue of `count` events.
-fn oldest_answer(first: Oldest, count: usize) -> EventAnswer
-    ensures { λ r. ⌜ eventAnswer r ≡ byAdmission refused (cond (eqb count 0) NONE (EVENT (first .event))) (first .a) ⌝ }
+// What an event read answers; `event` is the oldest of `count` events.
+fn oldest_answer(a: Admission, event: Event, count: usize) -> EventAnswer
+    ensures { λ r. ⌜ eventAnswer r ≡ byAdmission refused (cond (eqb count 0) NONE (EVENT event)) a ⌝ }
 {
-    match first.a {
+    match a {
         Admission::Admitted => {
             if count == 0 {
                 return EventAnswer::Nothing;
             }
-            EventAnswer::Oldest(first.event)
+            EventAnswer::Oldest(event)
         }
         Admission::Refused(refusal) => EventAnswer::Refused(refusal),
     }
@@ -165,9 +166,10 @@ pub fn read_event(t: Target, first: Oldest) -> EventTold
     requires { ⌜ OldestAs t BadArgument.None first ⌝ }
     ensures { λ r. ⌜ Stored t (r .patch) (λ u. ReadEventTold t (record { target = u; answer = r .answer })) ⌝ }
 {
+    let a = first.a;
     let count = t.queue.count;
-    let oldest = oldest_answer(first, count);
-    let takes = admission::is_admitted(first.a) & (0 < count);
+    let oldest = oldest_answer(a, first.event, count);
+    let takes = admission::is_admitted(a) & (0 < count);
     let c = patch::counts_of(t);
     let p = patch::event_taken(c, takes);
     let answer = replies::event_reply(oldest);

@@ -1,6 +1,6 @@
 use borrow.Author.Needs.{needs}
-use Rattle.gussetreed.proofs.early.links_alone.Statement.{statement}
-use Rattle.gussetreed.proofs.early.links_alone.Tie as tie
+use Rattle.gussetreed.proofs.alone.links_alone.Statement.{statement}
+use Rattle.gussetreed.proofs.alone.links_alone.Tie as tie
 
 is-admitted-requires : tie.Need-is-admitted-requires
 is-admitted-requires c κs = search needs

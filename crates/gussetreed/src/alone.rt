@@ -15,7 +15,7 @@ ghost use Rattle.portals.specs.Admission.{Admits};
 ghost use Rattle.portals.specs.EarlyMessages.{appendTests, searchTests};
 ghost use Rattle.gussetreed.specs.Replies.{AppendTold, SearchTold};
 ghost use Rattle.gussetreed.specs.Stored.{Stored};
-ghost use Rattle.gussetreed.specs.Early.{linksAlone, searchesNothing};
+ghost use Rattle.gussetreed.specs.Alone.{linksAlone, searchesNothing};
 
 // The append is admitted and takes no header: none waits, or the entry goes to the overflow list.
 pub fn links_alone(t: Target, a: Admission, e: Entry) -> bool

@@ -1,6 +1,6 @@
 use borrow.Author.Needs.{needs}
-use Rattle.gussetreed.proofs.early.searches_nothing.Statement.{statement}
-use Rattle.gussetreed.proofs.early.searches_nothing.Tie as tie
+use Rattle.gussetreed.proofs.alone.searches_nothing.Statement.{statement}
+use Rattle.gussetreed.proofs.alone.searches_nothing.Tie as tie
 
 is-admitted-requires : tie.Need-is-admitted-requires
 is-admitted-requires c κs = search needs

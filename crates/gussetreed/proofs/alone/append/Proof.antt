@@ -1,8 +1,8 @@
 -- An admitted append finds a handle. That the counters are numbers stands in what the function knows of the target.
 use borrow.Author.Needs.{needs}
-use Rattle.gussetreed.proofs.EarlyLaws.{counters-fit, append-handle, append-events, append-stored}
-use Rattle.gussetreed.proofs.early.append.Statement.{statement}
-use Rattle.gussetreed.proofs.early.append.Tie as tie
+use Rattle.gussetreed.proofs.AloneLaws.{counters-fit, append-handle, append-events, append-stored}
+use Rattle.gussetreed.proofs.alone.append.Statement.{statement}
+use Rattle.gussetreed.proofs.alone.append.Tie as tie
 
 add-handle : tie.Need-add-handle
 add-handle c =

@@ -34,7 +34,7 @@ use Rattle.inplace.proofs.UnwalkedLaws.{link-fits, closing-fits}
 use Rattle.inplace.proofs.UnwalkedMet.{CountersFit, link-met, closing-met}
 use Rattle.gussetreed.specs.Replies.{replyOf, AppendTold, SearchTold}
 use Rattle.gussetreed.specs.Stored.{Stored}
-use Rattle.gussetreed.specs.Early.{linksAlone, searchesNothing}
+use Rattle.gussetreed.specs.Alone.{linksAlone, searchesNothing}
 use Rattle.gussetreed.specs.declared.layout.Reply.{Reply}
 
 -- the counters of a target are numbers of 64 bits

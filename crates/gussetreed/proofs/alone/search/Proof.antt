@@ -1,7 +1,7 @@
 use borrow.Author.Needs.{needs}
-use Rattle.gussetreed.proofs.EarlyLaws.{search-events, search-stored}
-use Rattle.gussetreed.proofs.early.search.Statement.{statement}
-use Rattle.gussetreed.proofs.early.search.Tie as tie
+use Rattle.gussetreed.proofs.AloneLaws.{search-events, search-stored}
+use Rattle.gussetreed.proofs.alone.search.Statement.{statement}
+use Rattle.gussetreed.proofs.alone.search.Tie as tie
 
 counts-of-requires : tie.Need-counts-of-requires
 counts-of-requires c κs = search needs
