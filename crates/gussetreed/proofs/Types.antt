@@ -1,5 +1,5 @@
 -- The types of the exported calls, as the laws of calls on a lent target take them, beside those of `host`: the reply, and the structs of
--- target and reply that the calls by value hand back.
+-- target and reply, or of patch and reply, that are handed back.
 use mathlib.Core.Path.{_≡_, refl, subst, ap}
 use mathlib.Core.List.{[], _∷_}
 use mir.Syntax.{Sym}
@@ -24,8 +24,6 @@ use Rattle.gussetreed.proofs.told.Told as Changed
 use Rattle.gussetreed.proofs.told.EventTold as EventChanged
 use Rattle.gussetreed.proofs.replied.Replied as Replied
 use Rattle.gussetreed.proofs.replied.Replied.Laws as Replied′
-use Rattle.gussetreed.proofs.replied.EventReplied as EventReplied
-use Rattle.gussetreed.proofs.replied.EventReplied.Laws as EventReplied′
 
 -- ## The reply of the calls that only read
 
@@ -93,11 +91,6 @@ abbrev pub replied : Done
 replied =
     done Reply.the-type Reply′.the-laws Reply′.lowers Reply′.the-plain
     (Replied.struct .name) (Replied.struct .D) (Replied.struct .as-values) (λ v. Replied.struct .make v tt) (λ d. refl) (λ v. refl) Replied.propositions
-
-abbrev pub event-replied : Done
-event-replied =
-    done EventReply.the-type EventReply′.the-laws EventReply′.lowers EventReply′.the-plain
-    (EventReplied.struct .name) (EventReplied.struct .D) (EventReplied.struct .as-values) (λ v. EventReplied.struct .make v tt) (λ d. refl) (λ v. refl) EventReplied.propositions
 
 -- ## What the calls by a patch hand back
 

@@ -101,25 +101,6 @@ pub fn counts_of(t: Target) -> Counts
 
 // ## What is stored
 
-// The slot that is stored, or else what stood there.
-pub fn entry_stored(stores: bool, slot: HeldEntry, old: HeldEntry) -> HeldEntry
-    ensures { λ r. ⌜ r ≡ cond stores slot old ⌝ }
-{
-    if stores { slot } else { old }
-}
-
-pub fn header_stored(stores: bool, slot: Header, old: Header) -> Header
-    ensures { λ r. ⌜ r ≡ cond stores slot old ⌝ }
-{
-    if stores { slot } else { old }
-}
-
-pub fn event_stored(stores: bool, slot: Event, old: Event) -> Event
-    ensures { λ r. ⌜ r ≡ cond stores slot old ⌝ }
-{
-    if stores { slot } else { old }
-}
-
 // The counter that grows: as it was, or 0.
 fn counter_kept(keeps: bool, old: Counter) -> Counter
     ensures { λ r. ⌜ r ≡ cond keeps old zeroCounter ⌝ }
