@@ -34,7 +34,7 @@ pub struct EntryPatch {
     pub removes: bool,
     pub at: usize,
     pub slot: HeldEntry,
-    // How many entries there are, where none goes.
+    // How many entries there are; where one goes, how many there were.
     pub count: usize,
 }
 
