@@ -1,5 +1,6 @@
 // Document 01, "Request", rules 3 and 4, in one pass over the entries that tests the state as well.
 use matching::early_messages;
+use matching::layout::Entry;
 use matching::layout::Request;
 use matching::refusals;
 use matching::refusals::Refusal;
@@ -16,6 +17,7 @@ use state::soundness;
 use state::soundness::Scan;
 ghost use mathlib.Core.Path.{_≡_};
 ghost use Prim.Native.Nat.{_%_};
+ghost use Rattle.matching.specs.Request.{matches};
 ghost use Rattle.state.specs.Sizes.{SLOTS};
 ghost use Rattle.portals.specs.Request.{DecidedAs};
 ghost use Rattle.requests.specs.Parts.{Bounded};
@@ -61,6 +63,16 @@ pub fn seek_begun(t: Target, x: Asked) -> Seek
     }
 }
 
+// Rule 2. Most entries that do not match differ in the bits: nothing else is tested of those.
+fn matches_request(e: Entry, local: u32, a: Arrival) -> bool
+    ensures { λ r. ⌜ r ≡ matches e local a ⌝ }
+{
+    if !request::bits_agree(e.matchbits, e.ignorebits, a.matchbits) {
+        return false;
+    }
+    request::is_match(e, local, a)
+}
+
 // The entry is better than the best found so far: it stands in an earlier list of the portal, and matches.
 fn is_better(s: Seek, x: HeldEntry) -> bool
     ensures { λ r. ⌜ r ≡ isBetter s x ⌝ }
@@ -69,7 +81,7 @@ fn is_better(s: Seek, x: HeldEntry) -> bool
     if !stands {
         return false;
     }
-    request::is_match(x.entry, x.local, s.arrival)
+    matches_request(x.entry, x.local, s.arrival)
 }
 
 // The pass sees the next entry.
