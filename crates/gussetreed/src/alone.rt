@@ -17,7 +17,7 @@ ghost use Rattle.gussetreed.specs.Replies.{AppendTold, SearchTold};
 ghost use Rattle.gussetreed.specs.Stored.{Stored};
 ghost use Rattle.gussetreed.specs.Alone.{linksAlone, searchesNothing};
 
-// The append is admitted and takes no header: none waits, or the entry goes to the overflow list.
+// The append is admitted and walks no header: none waits, or the entry goes to the overflow list.
 pub fn links_alone(t: Target, a: Admission, e: Entry) -> bool
     ensures { λ r. ⌜ r ≡ linksAlone t a e ⌝ }
 {

@@ -16,6 +16,7 @@ pub struct Replied {
     pub answer: Reply,
 }
 
+// Of the event read: its promise alone speaks of it.
 pub struct EventReplied {
     pub target: Target,
     pub answer: EventReply,

@@ -1,4 +1,4 @@
--- What an append changes of a target where no header is taken, and a search where none is found, as a patch.
+-- What an append changes of a target where it walks no header, and a search where none waits, as a patch.
 use mathlib.Core.Bool.{true, false}
 use Prim.Native.Nat.{ℕ, _+_, _%_}
 use Rattle.matching.specs.declared.layout.Entry.{Entry}

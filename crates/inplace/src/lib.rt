@@ -1,4 +1,4 @@
-// Calls on a lent target that work where it is: its entries are read one by one, and what changes is stored in place.
+// What calls do on a lent target where it is: its entries are read one by one, and what changes is stored in place.
 pub mod admission;
 pub mod append;
 pub mod commit;

@@ -1,4 +1,5 @@
-// What a call changes of a target: at most one slot of each array, two of the event queue's, and the numbers beside them.
+// What a call changes of a target: at most one slot of each array, two of the event queue's, and the numbers beside them; or an entry
+// goes, and those after it move up.
 use state::counters;
 use state::empty;
 use state::event_queue;
@@ -13,7 +14,6 @@ ghost use mathlib.Core.Path.{_≡_};
 ghost use mathlib.Core.Bool.{true, cond};
 ghost use Prim.Native.Nat.{_≤_, _<_};
 ghost use Rattle.state.specs.Sizes.{EVENTS};
-ghost use Rattle.state.specs.Counters.{increased};
 ghost use Rattle.state.specs.View.{zeroCounter};
 ghost use Rattle.inplace.specs.Patch.{countsOf, counterStored, noEntry, noHeader, noCounter, noEvents, unchanged, posting, queuePatch, counterChange, eventTaken, entryGone};
 

@@ -1,4 +1,5 @@
-// What is tested of a lent target, where it is: its entries are read one by one.
+// What is tested of a lent target, where it is: its entries are read one by one. The laws of `thin` are for loops of this form, so some
+// functions that these call have a parameter that they do not use.
 use crate::admission;
 use crate::append;
 use crate::find;

@@ -1,4 +1,4 @@
-// What an append changes of a target where no header is taken, and a search where none is found.
+// What an append changes of a target where it walks no header, and a search where none waits.
 use crate::patch;
 use crate::patch::Counts;
 use crate::patch::EntryPatch;

@@ -1,4 +1,5 @@
--- A call that tests a lent target, and then patches it in its place if the test says that this is enough, and else stores the whole of it, proved once for every call of its form:
+-- A call that tests a lent target, and then patches it in its place if that is enough, and else stores the whole of it, proved once for
+-- every call of its form:
 --     pub fn f(t: &mut T, x: X) -> Y {
 --         let a = test(t, x);
 --         if alone(*t, a, x) {
