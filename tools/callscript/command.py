@@ -1,0 +1,238 @@
+"""The command bin/callscript."""
+import argparse
+import os
+import pathlib
+import subprocess
+import sys
+
+from . import binary, page, run, terminal, text
+from .calls import KINDS, OPTIONS
+
+ROOT = pathlib.Path(__file__).resolve().parent.parent.parent
+ABOUT = """\
+Call scripts as text: turned into the binary form that bin/replay runs and a card is fed with, and back; and a run of a
+script for the eye, each call beside its answer, in the terminal or as one HTML page with the lists, the waiting
+headers and the event queue after each call.
+"""
+FORM = """\
+The text form. One call a line, `#` begins a comment:
+
+    memory 16                      # the size of the memory, before the first call
+    portal halo 3                  # from here on `halo` is a name for portal 3
+
+    append portal=halo list=overflow options=OP_PUT+MANAGE_LOCAL length=8 ignore=all user=7
+    put    portal=halo ack=full nid=1 pid=2 uid=3 match=5 data=9 payload="abc"
+    read_event
+
+{calls}
+
+A field that is not given has the value in brackets; those without one must be given. A number is decimal, or hex
+behind 0x, and _ may stand between digits. Any number that the field can hold is taken, also one that the target will
+refuse. Words for numbers: list priority, overflow; mode look, delete; ack none, full, counting, operation; register
+drop, permission, operation; counter none; uid, nid and pid any; ignore all. Options are joined by +:
+{options};
+`none` for no option, and other bits as numbers. A payload is hex digits, two for a byte; or printable text in quotes,
+with \\n \\r \\t \\0 \\\\ \\" and \\xNN; or - for no bytes; *N behind it repeats it N times.
+
+Exit status: 0 all is well; 1 the text has mistakes, the script is bad, or the card differs; 2 wrong usage, a file that
+cannot be read or written, or a printout that could not be had.
+
+Example: bin/callscript show examples/worked.call
+         bin/callscript page examples/trace-denial.call -o denial.html
+         bin/callscript pack my.call -o my.bin && bin/replay my.bin
+"""
+
+
+class Failure(Exception):
+    """What ends the command: the lines for standard error, and the exit status."""
+
+    def __init__(self, status, *lines):
+        super().__init__("\n".join(lines))
+        self.status = status
+
+
+def main(words):
+    options = arguments().parse_args(words)
+    try:
+        status = options.action(options)
+        sys.stdout.flush()
+        return status
+    except Failure as failure:
+        print(failure, file=sys.stderr)
+        return failure.status
+    except BrokenPipeError:
+        # Whoever read the output has gone; nothing more is written, at the end of the program neither.
+        os.dup2(os.open(os.devnull, os.O_WRONLY), sys.stdout.fileno())
+        return 2
+
+
+def arguments():
+    parser = argparse.ArgumentParser(
+        prog="callscript", description=ABOUT, epilog=form(), formatter_class=argparse.RawDescriptionHelpFormatter
+    )
+    actions = parser.add_subparsers(metavar="COMMAND", required=True)
+
+    def add(name, action, what, about):
+        one = actions.add_parser(name, help=about, description=about[0].upper() + about[1:] + ".")
+        one.set_defaults(action=action)
+        one.add_argument("file", metavar=what, help="- for standard input")
+        return one
+
+    def add_output(one):
+        one.add_argument("-o", "--output", metavar="FILE", default="-", help="instead of standard output")
+
+    def add_printouts(one):
+        one.add_argument("--printout", metavar="FILE", help="the script's printout; without it bin/replay makes it")
+        one.add_argument("--card", metavar="FILE", help="a card's printout, to be compared with the script's")
+
+    add_output(add("pack", pack, "TEXT", "turn a script in text form into the binary form"))
+    add_output(add("unpack", unpack, "BINARY", "turn a script in binary form into the text form"))
+    one = add("show", show, "SCRIPT", "show a run in the terminal; the script is in either form")
+    add_printouts(one)
+    one.add_argument("--state", action="store_true", help="show the state after each call too")
+    one.add_argument("--colour", choices=("auto", "always", "never"), default="auto", help="auto: in a terminal")
+    one = add("page", write_page, "SCRIPT", "write a run as one HTML page; the script is in either form")
+    add_printouts(one)
+    add_output(one)
+    return parser
+
+
+def form():
+    lines = []
+    for kind in KINDS:
+        fields = [
+            field.name if field.default is None else f"{field.name} [{text.write_value(field, field.default)}]"
+            for field in kind.named
+        ]
+        lines += wrapped(f"    {kind.name:14}", ", ".join(fields) or "(no field)", ", ")
+    return FORM.format(calls="\n".join(lines), options="\n".join(wrapped("", ", ".join(OPTIONS), ", ")))
+
+
+def wrapped(begin, words, between):
+    """Words behind a beginning, in lines of at most 112 characters."""
+    lines = [begin]
+    for word in words.split(between):
+        if len(lines[-1]) + len(word) > 110:
+            lines.append(" " * len(begin))
+        lines[-1] += word + between
+    lines[-1] = lines[-1].removesuffix(between)
+    return [line.rstrip() for line in lines]
+
+
+# ---- The commands
+
+
+def pack(options):
+    script = parsed(options.file, read_file(options.file))
+    if options.output == "-" and sys.stdout.isatty():
+        raise Failure(2, "callscript: the binary form is not for a terminal: use -o FILE")
+    write_file(options.output, binary.encode(script))
+    return 0
+
+
+def unpack(options):
+    script = decoded(options.file, read_file(options.file))
+    write_file(options.output, text.write(script).encode())
+    return 0
+
+
+def show(options):
+    shown = run_for(options)
+    colour = options.colour == "always" or (
+        options.colour == "auto" and sys.stdout.isatty() and not os.environ.get("NO_COLOR")
+    )
+    for line in terminal.show(shown, options.state, colour):
+        print(line)
+    return status_of(shown)
+
+
+def write_page(options):
+    shown = run_for(options)
+    name = "standard input" if options.file == "-" else pathlib.Path(options.file).name
+    write_file(options.output, page.page(shown, name).encode())
+    return status_of(shown)
+
+
+def status_of(shown):
+    return 1 if shown.compared and (shown.differing or shown.stray) else 0
+
+
+def run_for(options):
+    """The run of a script in either form: a binary one has a byte of 0, a text has none."""
+    file = read_file(options.file)
+    script = decoded(options.file, file) if b"\0" in file else parsed(options.file, file)
+    if options.printout is None:
+        printout = replayed(binary.encode(script))
+    else:
+        printout = printout_in(options.printout)
+    return run.run_of(script, printout, None if options.card is None else printout_in(options.card))
+
+
+def printout_in(name):
+    return read_file(name).decode("ascii", "backslashreplace")
+
+
+def replayed(file):
+    """The printout of a script, by the reference target."""
+    done = subprocess.run([str(ROOT / "bin" / "replay"), "-"], input=file, stdout=subprocess.PIPE, check=False)
+    if done.returncode not in (0, 1):
+        raise Failure(2, "callscript: bin/replay gave no printout; one from a file can be shown with --printout FILE")
+    return done.stdout.decode("ascii", "backslashreplace")
+
+
+# ---- Files
+
+
+def read_file(name):
+    try:
+        if name == "-":
+            return sys.stdin.buffer.read()
+        return pathlib.Path(name).read_bytes()
+    except OSError as error:
+        raise Failure(2, f"callscript: {name}: {error.strerror}") from None
+
+
+def write_file(name, data):
+    try:
+        if name == "-":
+            sys.stdout.buffer.write(data)
+            sys.stdout.buffer.flush()
+        else:
+            pathlib.Path(name).write_bytes(data)
+    except BrokenPipeError:
+        raise
+    except OSError as error:
+        raise Failure(2, f"callscript: {name}: {error.strerror}") from None
+
+
+def decoded(name, file):
+    try:
+        return binary.decode(file)
+    except binary.BadScript as bad:
+        raise Failure(1, f"{name}: {bad}") from None
+
+
+def parsed(name, file):
+    """The script of a text, or all its mistakes."""
+    try:
+        source = file.decode()
+    except UnicodeDecodeError as error:
+        line = file.count(b"\n", 0, error.start) + 1
+        column = len(file[file.rfind(b"\n", 0, error.start) + 1 : error.start].decode()) + 1
+        message = f"expected text in UTF-8, found the byte 0x{file[error.start]:02x}"
+        raise Failure(1, f"{name}:{line}:{column}: {message}") from None
+    script, mistakes = text.parse(source)
+    if mistakes:
+        lines = source.split("\n")
+        said = [line for mistake in mistakes for line in mistake_lines(name, mistake, lines[mistake.line - 1])]
+        raise Failure(1, *said, f"{name}: {len(mistakes)} mistake{'s' * (len(mistakes) != 1)}, nothing was made of it")
+    return script
+
+
+def mistake_lines(name, mistake, line):
+    """A mistake, and its line with a mark below the column; of a long line the part around it."""
+    yield f"{name}:{mistake.line}:{mistake.column}: {mistake.message}"
+    begin = max(mistake.column - 1 - 60, 0)
+    part = line[begin : begin + 100].rstrip()
+    yield "    " + part
+    yield "    " + "".join("\t" if c == "\t" else " " for c in line[begin : mistake.column - 1]) + "^"
