@@ -1,5 +1,5 @@
 -- A call whose patch is stored keeps its promise.
-use mathlib.Core.Path.{_≡_, refl, sym, ap, _∙_, subst}
+use mathlib.Core.Path.{_≡_, refl, sym, ap, _∙_}
 use mathlib.Core.Bool.{Bool, true, false, _&&_, not, cond, false≢true}
 use mathlib.Core.List.{List, [], _∷_}
 use Prim.Native.Nat.{ℕ, _+_, _^_, _%_, _≤_, _<_}
@@ -18,7 +18,6 @@ use Rattle.state.specs.Lists.{any, firstFrom, placeOr}
 use Rattle.state.specs.View.{entriesOf, queueOf, isLinkedAs}
 use Rattle.state.specs.Counters.{plus64, counterAt, increased}
 use Rattle.state.specs.declared.layout.CounterChange.{CounterChange}
-use Rattle.state.specs.declared.layout.Counter.{Counter}
 use Rattle.state.specs.declared.layout.Event.{Event}
 use Rattle.state.specs.declared.layout.Queue.{Queue}
 use Rattle.state.specs.declared.layout.Target.{Target}
@@ -28,7 +27,6 @@ use Rattle.state.proofs.PostLaws.{popped-by}
 use Rattle.requests.specs.Plan.{bytesPut, bytesGot}
 use Rattle.requests.specs.Decision.{ifDelivered}
 use Rattle.requests.specs.Parts.{OfDelivery, PartsAllow}
-use Rattle.requests.specs.declared.plan.Plan.{Plan}
 use Rattle.requests.specs.declared.decision.Decision.{Decision}
 use Rattle.requests.proofs.DecisionLaws.{claim-follows}
 use Rattle.portals.specs.Refusals.{goodArguments}

@@ -4,7 +4,7 @@
 --     by-definition, read-by-definition: a call's reply is the answer that its definition gives, told in numbers.
 -- Assumes nothing.
 use mathlib.Core.Path.{_≡_, refl, ap, sym, _∙_}
-use mathlib.Core.List.{List, [], _∷_}
+use mathlib.Core.List.{[], _∷_}
 use lib.ListN.{getD}
 use Rattle.state.specs.View.{View}
 use Rattle.state.specs.Soundness.{seen}

@@ -20,10 +20,9 @@ use Rattle.gussetreed.proofs.layout.EventReply as EventReply
 use Rattle.gussetreed.proofs.layout.EventReply.Laws as EventReply′
 use Rattle.inplace.proofs.patch.Patch as Patch
 use Rattle.inplace.proofs.patch.Patch.Laws as Patch′
-use Rattle.gussetreed.proofs.told.Told as Changed
-use Rattle.gussetreed.proofs.told.EventTold as EventChanged
+use Rattle.gussetreed.proofs.told.Changed as Changed
+use Rattle.gussetreed.proofs.told.EventChanged as EventChanged
 use Rattle.gussetreed.proofs.replied.Replied as Replied
-use Rattle.gussetreed.proofs.replied.Replied.Laws as Replied′
 
 -- ## The reply of the calls that only read
 

@@ -6,7 +6,7 @@ use Rattle.state.specs.declared.layout.Target.{Target}
 use Rattle.portals.specs.Admission.{isAdmitted}
 use Rattle.portals.specs.declared.admission.Admission.{Admission}
 
--- the append is admitted and no header waits, or the entry goes to the overflow list
+-- the append is admitted, and walks no header: either none waits, or the entry goes to the overflow list
 abbrev pub linksAlone : Target → Admission → Entry → Bool
 linksAlone t a e = isAdmitted a && (eqb (t .unexpected .count) 0 || not (eqb (e .list) 0))
 

@@ -1,6 +1,6 @@
 // Append and search where no unexpected header is walked: what each changes of a target, as a patch, and its answer as numbers.
 use crate::replies;
-use crate::told::Told;
+use crate::told::Changed;
 use inplace::patch;
 use inplace::unwalked;
 use matching::layout::Entry;
@@ -32,7 +32,7 @@ pub fn searches_nothing(t: Target, a: Admission, e: Entry) -> bool
 }
 
 // LINKED with the next handle.
-pub fn append(t: Target, a: Admission, e: Entry) -> Told
+pub fn append(t: Target, a: Admission, e: Entry) -> Changed
     requires { ⌜ Admits (λ v. appendTests v e) t a × (linksAlone t a e ≡ true) ⌝ }
     ensures { λ r. ⌜ Stored t (r .patch) (λ u. AppendTold t e (record { target = u; answer = r .answer })) ⌝ }
 {
@@ -40,16 +40,16 @@ pub fn append(t: Target, a: Admission, e: Entry) -> Told
     let c = patch::counts_of(t);
     let p = unwalked::link_patch(c, e, handle);
     let answer = replies::append_reply(AppendAnswer::Linked(handle));
-    Told { patch: p, answer }
+    Changed { patch: p, answer }
 }
 
 // SEARCHED, with none found.
-pub fn search(t: Target, a: Admission, e: Entry) -> Told
+pub fn search(t: Target, a: Admission, e: Entry) -> Changed
     requires { ⌜ Admits (λ v. searchTests v e) t a × (searchesNothing t a ≡ true) ⌝ }
     ensures { λ r. ⌜ Stored t (r .patch) (λ u. SearchTold t e (record { target = u; answer = r .answer })) ⌝ }
 {
     let c = patch::counts_of(t);
     let p = unwalked::closing_patch(c, e);
     let answer = replies::search_reply(SearchAnswer::Searched(0));
-    Told { patch: p, answer }
+    Changed { patch: p, answer }
 }

@@ -43,12 +43,12 @@ ghost use Rattle.gussetreed.specs.Replies.{UnlinkTold, PutTold, GetTold,
 ghost use Rattle.gussetreed.specs.Stored.{Stored, changeOf};
 
 // What a call changes, and its answer.
-pub struct Told {
+pub struct Changed {
     pub patch: Patch,
     pub answer: Reply,
 }
 
-pub struct EventTold {
+pub struct EventChanged {
     pub patch: Patch,
     pub answer: EventReply,
 }
@@ -99,7 +99,7 @@ pub fn bad_test(x: CounterTest) -> BadArgument
 
 // ## Put and get
 
-pub fn put(t: Target, d: Decision, memory: &mut [u8], q: Request, payload: &[u8]) -> Told
+pub fn put(t: Target, d: Decision, memory: &mut [u8], q: Request, payload: &[u8]) -> Changed
     requires { ⌜ DecidedAs t (length (now memory)) q Kind.Put (length (now payload)) d ⌝ }
     ensures { λ r. ⌜ Stored t (r .patch) (λ u. PutTold t (now (memory .entry)) q (now (payload .entry)) (record { target = u; answer = r .answer }) (now (memory .exit))) ⌝ }
 {
@@ -108,10 +108,10 @@ pub fn put(t: Target, d: Decision, memory: &mut [u8], q: Request, payload: &[u8]
     let p = decided::request_patch(c, d);
     let a = put_get::answer_by(d, Kind::Put, q.ack);
     let answer = replies::request_reply(a);
-    Told { patch: p, answer }
+    Changed { patch: p, answer }
 }
 
-pub fn get(t: Target, d: Decision, memory: &[u8], q: Request, buffer: &mut [u8]) -> Told
+pub fn get(t: Target, d: Decision, memory: &[u8], q: Request, buffer: &mut [u8]) -> Changed
     requires { ⌜ DecidedAs t (length (now memory)) q Kind.Get (length (now buffer)) d ⌝ }
     ensures { λ r. ⌜ Stored t (r .patch) (λ u. GetTold t (now (memory .entry)) q (now (buffer .entry)) (record { target = u; answer = r .answer }) (now (buffer .exit))) ⌝ }
 {
@@ -120,7 +120,7 @@ pub fn get(t: Target, d: Decision, memory: &[u8], q: Request, buffer: &mut [u8])
     let p = decided::request_patch(c, d);
     let a = put_get::answer_by(d, Kind::Get, q.ack);
     let answer = replies::request_reply(a);
-    Told { patch: p, answer }
+    Changed { patch: p, answer }
 }
 
 // ## Unlink
@@ -132,7 +132,7 @@ pub fn handle_asked(handle: u32) -> u32
     handle
 }
 
-pub fn unlink(t: Target, u: Unlinking, handle: u32) -> Told
+pub fn unlink(t: Target, u: Unlinking, handle: u32) -> Changed
     requires { ⌜ UnlinkTested t handle u ⌝ }
     ensures { λ r. ⌜ Stored t (r .patch) (λ v. UnlinkTold t handle (record { target = v; answer = r .answer })) ⌝ }
 {
@@ -142,7 +142,7 @@ pub fn unlink(t: Target, u: Unlinking, handle: u32) -> Told
     let p = patch::entry_gone(c, unlinks, u.at);
     let done = admission::answer_plain(a);
     let answer = replies::plain_reply(done);
-    Told { patch: p, answer }
+    Changed { patch: p, answer }
 }
 
 // ## Events and counters
@@ -162,7 +162,7 @@ fn oldest_answer(a: Admission, event: Event, count: usize) -> EventAnswer
     }
 }
 
-pub fn read_event(t: Target, first: Oldest) -> EventTold
+pub fn read_event(t: Target, first: Oldest) -> EventChanged
     requires { ⌜ OldestAs t BadArgument.None first ⌝ }
     ensures { λ r. ⌜ Stored t (r .patch) (λ u. ReadEventTold t (record { target = u; answer = r .answer })) ⌝ }
 {
@@ -173,7 +173,7 @@ pub fn read_event(t: Target, first: Oldest) -> EventTold
     let c = patch::counts_of(t);
     let p = patch::event_taken(c, takes);
     let answer = replies::event_reply(oldest);
-    EventTold { patch: p, answer }
+    EventChanged { patch: p, answer }
 }
 
 // A counter is set, or grows where it is kept.
@@ -190,7 +190,7 @@ fn change_of(a: Admission, keeps: bool, x: CounterChange) -> CounterPatch
     }
 }
 
-pub fn set_counter(t: Target, a: Admission, x: CounterChange) -> Told
+pub fn set_counter(t: Target, a: Admission, x: CounterChange) -> Changed
     requires { ⌜ Admits (λ v. counterTests (x .counter)) t a ⌝ }
     ensures { λ r. ⌜ Stored t (r .patch) (λ u. SetCounterTold t x (record { target = u; answer = r .answer })) ⌝ }
 {
@@ -199,10 +199,10 @@ pub fn set_counter(t: Target, a: Admission, x: CounterChange) -> Told
     let p = patch::counter_change(c, counter);
     let done = admission::answer_plain(a);
     let answer = replies::plain_reply(done);
-    Told { patch: p, answer }
+    Changed { patch: p, answer }
 }
 
-pub fn increment(t: Target, a: Admission, x: CounterChange) -> Told
+pub fn increment(t: Target, a: Admission, x: CounterChange) -> Changed
     requires { ⌜ Admits (λ v. counterTests (x .counter)) t a ⌝ }
     ensures { λ r. ⌜ Stored t (r .patch) (λ u. IncrementTold t x (record { target = u; answer = r .answer })) ⌝ }
 {
@@ -211,7 +211,7 @@ pub fn increment(t: Target, a: Admission, x: CounterChange) -> Told
     let p = patch::counter_change(c, counter);
     let done = admission::answer_plain(a);
     let answer = replies::plain_reply(done);
-    Told { patch: p, answer }
+    Changed { patch: p, answer }
 }
 
 // ## The calls that only read

@@ -1,22 +1,16 @@
 -- Patches of one part: the target that each leaves, and that each can be stored.
-use mathlib.Core.Path.{_≡_, refl, sym, _∙_, ap}
+use mathlib.Core.Path.{_≡_, refl, sym, subst}
 use mathlib.Core.Bool.{Bool, true, false, cond, false≢true}
 use mathlib.Core.List.{List}
-use Prim.Native.Nat.{ℕ, _+_, _-_, _^_, _%_, _≤_, _<_}
+use Prim.Native.Nat.{ℕ, _%_, _<_}
 use native.Mathlib.Omega.{arith}
-use native.Mathlib.Nat.{mod-eq-of-lt, mod-lt}
+use native.Mathlib.Nat.{mod-eq-of-lt}
 use lib.ListN.{set}
-use Rattle.state.specs.Sizes.{SLOTS, EVENTS, COUNTERS}
-use Rattle.state.specs.View.{queueOf}
+use Rattle.state.specs.Sizes.{COUNTERS}
 use Rattle.state.specs.Counters.{counterAt, increased}
-use Rattle.state.specs.Events.{withoutOldest}
-use Rattle.state.specs.Parts.{EntriesFit, QueueFits, QueueHolds, Popped}
-use Rattle.state.specs.declared.layout.Entries.{Entries}
 use Rattle.state.specs.declared.layout.Counter.{Counter}
-use Rattle.state.specs.declared.layout.Counters.{Counters}
-use Rattle.state.specs.declared.layout.Queue.{Queue}
 use Rattle.state.specs.declared.layout.Target.{Target}
-use Rattle.inplace.specs.Patch.{countsOf, counterStored, queuePatched, countersPatched, EntriesPatched, Patched, PatchFits, counterChange, takenFrom, eventTaken, entryGone}
+use Rattle.inplace.specs.Patch.{countsOf, queuePatched, countersPatched, Patched, PatchFits, counterChange, takenFrom, eventTaken, entryGone}
 use Rattle.inplace.specs.declared.patch.CounterPatch.{CounterPatch}
 
 -- a target is its parts
@@ -55,7 +49,9 @@ counter-fits t p h = record { entry = omega arith; header = omega arith; first =
 -- what is stored of a counter that is one of the 16: its new value; of another, nothing
 pub changed-slots : (slots : List Counter) (stores keeps : Bool) (k success failure : ℕ) (c : Counter) → (stores ≡ true → k < COUNTERS) → (stores ≡ true → increased (cond keeps (counterAt slots k) (record { success = 0; failure = 0 })) success failure ≡ c)
     → countersPatched (record { stores = stores; at = k % COUNTERS; keeps = keeps; success = success; failure = failure }) (record { slots = slots }) .slots ≡ cond stores (set slots k c) slots
-changed-slots slots true keeps k success failure c inside is = rw (mod-eq-of-lt (inside refl), is refl)
+changed-slots slots true keeps k success failure c inside is =
+    let after : ℕ → List Counter = λ j. countersPatched (record { stores = true; at = j; keeps = keeps; success = success; failure = failure }) (record { slots = slots }) .slots in
+    subst (λ (j : ℕ). after j ≡ set slots k c) (sym (mod-eq-of-lt (inside refl))) (subst (λ (x : Counter). after k ≡ set slots k x) (is refl) refl)
 changed-slots slots false keeps k success failure c inside is = refl
 
 -- ## The oldest event

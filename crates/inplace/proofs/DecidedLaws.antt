@@ -1,21 +1,18 @@
 -- A target on which the patch of a decision is stored is the one that the decision leaves.
-use mathlib.Core.Path.{_≡_, refl, sym, _∙_, ap, subst}
+use mathlib.Core.Path.{_≡_, refl, ap}
 use mathlib.Core.Bool.{Bool, true, false, not, cond, false≢true}
 use mathlib.Core.List.{List}
 use Prim.Native.Nat.{ℕ, _+_, _%_, _≤_, _<_}
 use native.Mathlib.Omega.{arith}
 use native.Mathlib.Nat.{mod-eq-of-lt, mod-lt}
 use borrow.Author.Tests.{ltb-true}
-use lib.ListN.{set}
 use Rattle.matching.specs.Entry.{isCounter}
-use Rattle.matching.specs.Counters.{commAmount}
-use Rattle.state.specs.Sizes.{SLOTS, HEADERS, EVENTS, COUNTERS}
+use Rattle.state.specs.Sizes.{SLOTS, HEADERS, COUNTERS}
 use Rattle.state.specs.Lists.{removeAt}
-use Rattle.state.specs.View.{entriesOf, headersOf, queueOf}
+use Rattle.state.specs.View.{entriesOf, headersOf}
 use Rattle.state.specs.Counters.{counterAt, counted, increased}
-use Rattle.state.specs.Events.{arrivalEvent, autoUnlinkEvent, postAll}
-use Rattle.state.specs.Parts.{EntriesFit, EntriesHold, UnexpectedFit, UnexpectedHold, QueueFits, QueueHolds}
-use Rattle.state.specs.declared.layout.HeldEntry.{HeldEntry}
+use Rattle.state.specs.Events.{arrivalEvent, autoUnlinkEvent}
+use Rattle.state.specs.Parts.{EntriesFit, EntriesHold, UnexpectedFit, UnexpectedHold}
 use Rattle.state.specs.declared.layout.Header.{Header}
 use Rattle.state.specs.declared.layout.Entries.{Entries}
 use Rattle.state.specs.declared.layout.Unexpected.{Unexpected}
@@ -23,14 +20,13 @@ use Rattle.state.specs.declared.layout.Counter.{Counter}
 use Rattle.state.specs.declared.layout.Registers.{Registers}
 use Rattle.state.specs.declared.layout.Target.{Target}
 use Rattle.state.proofs.SlotLaws.{held-as-is, added, replaced}
-use Rattle.requests.specs.Plan.{entryAfter, isFreed, entriesAfter, headersAfter, requestEvents, countersAfter}
-use Rattle.requests.specs.Decision.{registersAfter}
+use Rattle.requests.specs.Plan.{entryAfter, isFreed, entriesAfter, headersAfter}
 use Rattle.requests.specs.Parts.{OfDelivery, PartsAllow, TargetAfter}
 use Rattle.requests.specs.declared.plan.Plan.{Plan}
 use Rattle.requests.specs.declared.decision.Decision.{Decision}
 use Rattle.requests.specs.declared.decision.Decision.the-variants as Decision
-use Rattle.inplace.specs.Patch.{countsOf, storedAt, unexpectedPatched, EntriesPatched, Patched, PatchFits}
-use Rattle.inplace.specs.Decided.{entryPatch, headerPatch, counterPatch, deliveryPatch, registersPatch, requestPatch}
+use Rattle.inplace.specs.Patch.{countsOf, storedAt, unexpectedPatched, Patched, PatchFits}
+use Rattle.inplace.specs.Decided.{deliveryPatch, registersPatch, requestPatch}
 use Rattle.inplace.proofs.PatchLaws.{postings-hold}
 
 -- ## A delivery, part by part

@@ -1,13 +1,12 @@
 -- The pass that looks for a handle: how it begins, a turn, and what it has found when every entry has been seen.
-use mathlib.Core.Path.{_≡_, refl, sym, _∙_}
+use mathlib.Core.Path.{_≡_, refl, _∙_}
 use mathlib.Core.Bool.{Bool, true, false, _&&_, _||_, not, cond, false≢true}
-use mathlib.Core.Option.{Option, none, some}
-use Prim.Native.Nat.{ℕ, _+_, _-_, _%_, _≤_, _<_}
+use mathlib.Core.Option.{Option, some}
+use Prim.Native.Nat.{ℕ, _+_, _≤_, _<_}
 use native.Mathlib.Omega.{arith}
 use native.Mathlib.Nat.{mod-eq-of-lt}
-use lib.ListN.{drop, getD, length}
+use lib.ListN.{drop, getD}
 use lib.Seq.{getD-take}
-use Rattle.state.specs.Sizes.{SLOTS}
 use Rattle.state.specs.Lists.{firstFrom, placeOr}
 use Rattle.state.specs.View.{entriesOf, isLinkedAs, zeroEntry}
 use Rattle.state.specs.Parts.{EntriesFit}
@@ -16,7 +15,7 @@ use Rattle.state.specs.declared.layout.Entries.{Entries}
 use Rattle.state.specs.declared.layout.Target.{Target}
 use Rattle.state.proofs.SlotLaws.{in-use, first-hit, first-miss, first-past}
 use Rattle.state.proofs.PassLaws.{next-in-use, next-fits, next-inside, pass-turn}
-use Rattle.inplace.specs.Find.{isHit, findMore, Finding}
+use Rattle.inplace.specs.Find.{findMore, Finding}
 use Rattle.inplace.specs.declared.find.Find.{Find}
 
 -- the entry at i is the one that is looked for, or not

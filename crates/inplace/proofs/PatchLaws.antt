@@ -1,21 +1,20 @@
 -- What patches make of the parts of a target.
-use mathlib.Core.Path.{_≡_, refl, sym, _∙_, ap}
+use mathlib.Core.Path.{_≡_, refl, _∙_}
 use mathlib.Core.Bool.{Bool, true, false, _&&_, _||_, not, cond}
-use mathlib.Core.List.{List, [], _∷_}
+use mathlib.Core.List.{[], _∷_}
 use Prim.Native.Nat.{ℕ, _+_, _%_, _≤_, _<_}
 use native.Mathlib.Omega.{arith}
-use native.Mathlib.Nat.{mod-eq-of-lt, mod-lt}
 use borrow.Author.Tests.{ltb-true}
 use lib.Dec.{ltb}
 use lib.ListN.{set, length-set}
 use Rattle.state.specs.Sizes.{EVENTS}
-use Rattle.state.specs.View.{EventQueue, queueOf}
+use Rattle.state.specs.View.{queueOf}
 use Rattle.state.specs.Events.{Issued, isDisabled, withGap, gapOf, postBy, post, postAll}
 use Rattle.state.specs.Parts.{QueueFits, QueueHolds}
 use Rattle.state.specs.declared.layout.Queue.{Queue}
 use Rattle.state.proofs.RingLaws.{ring-count, pushed}
 use Rattle.state.proofs.PostLaws.{then-posted}
-use Rattle.inplace.specs.Patch.{storedAt, joins, loses, posting}
+use Rattle.inplace.specs.Patch.{storedAt, posting}
 use Rattle.inplace.specs.declared.patch.Posting.{Posting}
 
 -- ## Events

@@ -5,29 +5,20 @@ use matching::layout::Entry;
 use matching::refusals;
 use matching::refusals::Refusal;
 use portals::admission::Admission;
+use portals::append as portal_append;
 use state::layout::Target;
-use state::sizes;
 use state::soundness;
 use state::soundness::Pass;
 ghost use mathlib.Core.Path.{_≡_};
-ghost use Rattle.state.specs.View.{viewOf};
-ghost use Rattle.state.specs.Parts.{EntriesFit, Passing};
+ghost use Rattle.state.specs.Parts.{Passing};
 ghost use Rattle.portals.specs.Admission.{Admits};
-ghost use Rattle.portals.specs.EarlyMessages.{hasSpace, appendTests, searchTests};
+ghost use Rattle.portals.specs.EarlyMessages.{appendTests, searchTests};
 
 // The pass begins.
 pub fn append_begun(t: Target, e: Entry) -> Pass
     ensures { λ r. ⌜ Passing t (r .scan) (r .at) (r .left) ⌝ }
 {
     soundness::pass_begun(t)
-}
-
-// A slot is free, and a handle is left.
-fn has_space(t: Target) -> bool
-    requires { ⌜ EntriesFit (t .entries) ⌝ }
-    ensures { λ r. ⌜ r ≡ hasSpace (viewOf t) ⌝ }
-{
-    (t.entries.count < sizes::SLOTS) & (t.last < sizes::LAST_HANDLE)
 }
 
 // The tests of an append, in their order, by a pass that has seen every entry.
@@ -43,7 +34,7 @@ pub fn append_pass_admitted(t: Target, p: Pass, e: Entry) -> Admission
     if !refusals::none_bad(bad) {
         return Admission::Refused(Refusal::ArgInvalid);
     }
-    if !has_space(t) {
+    if !portal_append::has_space(t) {
         return Admission::Refused(Refusal::NoSpace);
     }
     Admission::Admitted

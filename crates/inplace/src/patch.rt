@@ -127,7 +127,7 @@ pub fn counter_stored(p: CounterPatch, old: Counter) -> Counter
 
 // ## Patches that change nothing
 
-pub fn no_entry(count: usize) -> EntryPatch
+fn no_entry(count: usize) -> EntryPatch
     ensures { λ r. ⌜ r ≡ noEntry count ⌝ }
 {
     let slot = empty::zero_entry();
@@ -140,7 +140,7 @@ pub fn no_entry(count: usize) -> EntryPatch
     }
 }
 
-pub fn no_header(count: usize) -> HeaderPatch
+fn no_header(count: usize) -> HeaderPatch
     ensures { λ r. ⌜ r ≡ noHeader count ⌝ }
 {
     let slot = empty::zero_header();
@@ -152,7 +152,7 @@ pub fn no_header(count: usize) -> HeaderPatch
     }
 }
 
-pub fn no_counter() -> CounterPatch
+fn no_counter() -> CounterPatch
     ensures { λ r. ⌜ r ≡ noCounter ⌝ }
 {
     CounterPatch {
@@ -164,7 +164,7 @@ pub fn no_counter() -> CounterPatch
     }
 }
 
-pub fn no_events(c: Counts) -> QueuePatch
+fn no_events(c: Counts) -> QueuePatch
     ensures { λ r. ⌜ r ≡ noEvents c ⌝ }
 {
     let slot = empty::zero_event();

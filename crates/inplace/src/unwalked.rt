@@ -15,7 +15,7 @@ ghost use Rattle.state.specs.Sizes.{EVENTS};
 ghost use Rattle.inplace.specs.Unwalked.{entryLinked, oneEvent, linkPatch, closingPatch};
 
 // A new entry joins the end, linked, with its handle.
-pub fn entry_linked(c: Counts, e: Entry, handle: u32) -> EntryPatch
+fn entry_linked(c: Counts, e: Entry, handle: u32) -> EntryPatch
     ensures { λ r. ⌜ r ≡ entryLinked c e handle ⌝ }
 {
     let slot = HeldEntry {
@@ -35,7 +35,7 @@ pub fn entry_linked(c: Counts, e: Entry, handle: u32) -> EntryPatch
 }
 
 // One event is posted, and no second.
-pub fn one_event(c: Counts, event: Event, options: u32) -> QueuePatch
+fn one_event(c: Counts, event: Event, options: u32) -> QueuePatch
     requires { ⌜ c .events ≤ EVENTS ⌝ }
     ensures { λ r. ⌜ r ≡ oneEvent c (record { event = event; options = options }) ⌝ }
 {

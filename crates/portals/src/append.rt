@@ -26,7 +26,7 @@ ghost use Rattle.portals.specs.Promises.{AppendMet};
 ghost use Rattle.portals.specs.declared.admission.Admission.the-variants as Admission;
 
 // A slot is free, and a handle is left.
-fn has_space(t: Target) -> bool
+pub fn has_space(t: Target) -> bool
     requires { ⌜ EntriesFit (t .entries) ⌝ }
     ensures { λ r. ⌜ r ≡ hasSpace (viewOf t) ⌝ }
 {

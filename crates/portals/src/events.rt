@@ -28,7 +28,7 @@ fn oldest_or_nothing(q: Queue) -> EventAnswer
 }
 
 // What an event read answers.
-pub fn answer_event(a: Admission, q: Queue) -> EventAnswer
+fn answer_event(a: Admission, q: Queue) -> EventAnswer
     requires { ⌜ ((a ≡ Admission.Admitted) → QueueFits q) ⌝ }
     ensures { λ r. ⌜ eventAnswer r ≡ byAdmission refused (oldestOf (queueOf q .events)) a ⌝ }
 {

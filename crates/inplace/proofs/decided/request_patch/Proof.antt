@@ -1,7 +1,6 @@
 use mathlib.Core.Path.{sym, _∙_}
 use borrow.Author.Needs.{needs}
 use Rattle.requests.proofs.DecisionLaws.{of-delivered, delivered-is, kept-else}
-use Rattle.inplace.specs.Decided.{deliveryPatch, registersPatch}
 use Rattle.inplace.proofs.decided.request_patch.Statement.{statement}
 use Rattle.inplace.proofs.decided.request_patch.Tie as tie
 

@@ -1,5 +1,4 @@
 use mathlib.Core.Path.{refl}
-use borrow.Author.Needs.{needs}
 use Rattle.portals.specs.CounterCalls.{badPollArgument}
 use Rattle.portals.proofs.AdmitLaws.{lists-equal}
 use Rattle.portals.proofs.PartCalls.{poll-met}
