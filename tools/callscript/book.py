@@ -12,7 +12,9 @@ BIT = {name: 1 << bit for bit, name in enumerate(OPTIONS)}
 PORTALS, SLOTS, HEADERS, EVENTS, COUNTERS = 8, 64, 32, 64, 16
 WRAP = 2**64
 PRIORITY, OVERFLOW = 0, 1
-REGISTERS = ("DROPPED", "PERM", "OP")
+# The answers that count in a register, in the registers' order.
+DENIALS = ("DROPPED", "PERM", "OP")
+HANDLE_MOST = 2**32 - 1
 
 
 @dataclasses.dataclass(eq=False)
@@ -91,7 +93,7 @@ class Book:
         self.queue = []
         self.lost = False
         self.counters = [(0, 0)] * COUNTERS
-        self.registers = dict.fromkeys(REGISTERS, 0)
+        self.registers = dict.fromkeys(DENIALS, 0)
 
     def expected(self, call):
         """The answer to a call by document 01, as the line has it behind the number."""
@@ -159,7 +161,7 @@ class Book:
     def expected_append(self, call):
         if not self.good_entry(call, "list"):
             return "REFUSED ARG_INVALID"
-        if len(self.entries) >= SLOTS:
+        if len(self.entries) >= SLOTS or self.last >= HANDLE_MOST:
             return "REFUSED NO_SPACE"
         taken = call["list"] == PRIORITY and has(call, "USE_ONCE") and self.walk(call)
         return "TAKEN" if taken else f"LINKED {self.last + 1}"
@@ -241,7 +243,8 @@ class Book:
         if word:
             return f"{word} {ack}"
         offset, accepted, place = self.placed(entry, event)
-        answer = f"{('PRIORITY', 'OVERFLOW')[entry['list']]} {accepted} {offset} {0 if has(entry, 'ACK_DISABLE') else ack}"
+        word = "PRIORITY" if entry["list"] == PRIORITY else "OVERFLOW"
+        answer = f"{word} {accepted} {offset} {0 if has(entry, 'ACK_DISABLE') else ack}"
         if kind == "PUT":
             return answer
         return f"{answer} {self.memory[place : place + accepted].hex() or '-'}"
@@ -315,9 +318,9 @@ class Book:
             self.counters[call["counter"]] = ((success + call["success"]) % WRAP, (failure + call["failure"]) % WRAP)
 
     def expected_read_register(self, call):
-        if call["register"] >= len(REGISTERS):
+        if call["register"] >= len(DENIALS):
             return "REFUSED ARG_INVALID"
-        return f"REGISTER {self.registers[REGISTERS[call['register']]]}"
+        return f"REGISTER {self.registers[DENIALS[call['register']]]}"
 
     def hear_read_register(self, call, answer):
         pass

@@ -4,8 +4,9 @@ import os
 import pathlib
 import subprocess
 import sys
+import unicodedata
 
-from . import binary, page, run, terminal, text
+from . import binary, page, printout, run, terminal, text
 from .calls import KINDS, OPTIONS
 
 ROOT = pathlib.Path(__file__).resolve().parent.parent.parent
@@ -24,18 +25,21 @@ The text form. One call a line, `#` begins a comment:
     put    portal=halo ack=full nid=1 pid=2 uid=3 match=5 data=9 payload="abc"
     read_event
 
+The calls and their fields:
+
 {calls}
 
-A field that is not given has the value in brackets; those without one must be given. A number is decimal, or hex
-behind 0x, and _ may stand between digits. Any number that the field can hold is taken, also one that the target will
-refuse. Words for numbers: list priority, overflow; mode look, delete; ack none, full, counting, operation; register
-drop, permission, operation; counter none; uid, nid and pid any; ignore all. Options are joined by +:
+A field that is not given has the value in brackets; those without one must be given. They may stand in any order. A
+number is decimal, or hex behind 0x, and _ may stand between digits. Any number that the field can hold is taken, also
+one that the target will refuse. Words for numbers: list priority, overflow; mode look, delete; ack none, full,
+counting, operation; register drop, permission, operation; counter none; uid, nid and pid any; ignore all. Options are
+joined by +:
 {options};
 `none` for no option, and other bits as numbers. A payload is hex digits, two for a byte; or printable text in quotes,
 with \\n \\r \\t \\0 \\\\ \\" and \\xNN; or - for no bytes; *N behind it repeats it N times.
 
-Exit status: 0 all is well; 1 the text has mistakes, the script is bad, or the card differs; 2 wrong usage, a file that
-cannot be read or written, or a printout that could not be had.
+Exit status: 0 all is well; 1 the text has mistakes, the script is bad, an answer is not as expected, or the card
+differs; 2 wrong usage, a file that cannot be read or written, or a printout that could not be had.
 
 Example: bin/callscript show examples/worked.call
          bin/callscript page examples/trace-denial.call -o denial.html
@@ -54,16 +58,24 @@ class Failure(Exception):
 def main(words):
     options = arguments().parse_args(words)
     try:
+        if sys.stdout is None:
+            raise Failure(2, "callscript: standard output is closed")
+        if hasattr(sys.stdout, "reconfigure"):
+            sys.stdout.reconfigure(errors="backslashreplace")
         status = options.action(options)
         sys.stdout.flush()
         return status
     except Failure as failure:
         print(failure, file=sys.stderr)
         return failure.status
-    except BrokenPipeError:
-        # Whoever read the output has gone; nothing more is written, at the end of the program neither.
+    except OSError as error:
+        # Standard output takes no more: nothing is written at the end of the program either.
         os.dup2(os.open(os.devnull, os.O_WRONLY), sys.stdout.fileno())
+        if not isinstance(error, BrokenPipeError):
+            print(f"callscript: standard output: {error.strerror}", file=sys.stderr)
         return 2
+    except KeyboardInterrupt:
+        return 130
 
 
 def arguments():
@@ -75,7 +87,7 @@ def arguments():
     def add(name, action, what, about):
         one = actions.add_parser(name, help=about, description=about[0].upper() + about[1:] + ".")
         one.set_defaults(action=action)
-        one.add_argument("file", metavar=what, help="- for standard input")
+        one.add_argument("file", metavar=what, help="a file, or - for standard input")
         return one
 
     def add_output(one):
@@ -104,7 +116,8 @@ def form():
             field.name if field.default is None else f"{field.name} [{text.write_value(field, field.default)}]"
             for field in kind.named
         ]
-        lines += wrapped(f"    {kind.name:14}", ", ".join(fields) or "(no field)", ", ")
+        lines.append(f"    {kind.name:14}{kind.meaning}")
+        lines += wrapped(" " * 18, ", ".join(fields), ", ") if fields else []
     return FORM.format(calls="\n".join(lines), options="\n".join(wrapped("", ", ".join(OPTIONS), ", ")))
 
 
@@ -143,38 +156,46 @@ def show(options):
     )
     for line in terminal.show(shown, options.state, colour):
         print(line)
-    return status_of(shown)
+    return 1 if shown.summary else 0
 
 
 def write_page(options):
     shown = run_for(options)
     name = "standard input" if options.file == "-" else pathlib.Path(options.file).name
-    write_file(options.output, page.page(shown, name).encode())
-    return status_of(shown)
-
-
-def status_of(shown):
-    return 1 if shown.compared and (shown.differing or shown.stray) else 0
+    write_file(options.output, page.page(shown, text.visible(name)).encode())
+    return 1 if shown.summary else 0
 
 
 def run_for(options):
     """The run of a script in either form: a binary one has a byte of 0, a text has none."""
+    if [options.file, options.printout, options.card].count("-") > 1:
+        raise Failure(2, "callscript: only one file can be standard input")
     file = read_file(options.file)
     script = decoded(options.file, file) if b"\0" in file else parsed(options.file, file)
     if options.printout is None:
-        printout = replayed(binary.encode(script))
+        said = replayed(binary.encode(script))
     else:
-        printout = printout_in(options.printout)
-    return run.run_of(script, printout, None if options.card is None else printout_in(options.card))
+        said = printout_in(options.printout)
+    card = None if options.card is None else printout_in(options.card)
+    answers = printout.read(said, script)
+    if card is not None and (answers.stray or len(answers.answers) != len(script.calls)):
+        lacking = f"it answers {len(answers.answers)} of {len(script.calls)} calls, with {len(answers.stray)} other lines"
+        name = options.printout or "bin/replay"
+        raise Failure(2, f"callscript: {name}: no printout of this script to compare a card with: {lacking}")
+    return run.run_of(script, said, card)
 
 
 def printout_in(name):
-    return read_file(name).decode("ascii", "backslashreplace")
+    return read_file(name).decode("utf-8", "backslashreplace")
 
 
 def replayed(file):
     """The printout of a script, by the reference target."""
-    done = subprocess.run([str(ROOT / "bin" / "replay"), "-"], input=file, stdout=subprocess.PIPE, check=False)
+    program = ROOT / "bin" / "replay"
+    try:
+        done = subprocess.run([str(program), "-"], input=file, stdout=subprocess.PIPE, check=False)
+    except OSError as error:
+        raise Failure(2, f"callscript: {program}: {error.strerror}") from None
     if done.returncode not in (0, 1):
         raise Failure(2, "callscript: bin/replay gave no printout; one from a file can be shown with --printout FILE")
     return done.stdout.decode("ascii", "backslashreplace")
@@ -185,45 +206,51 @@ def replayed(file):
 
 def read_file(name):
     try:
-        if name == "-":
-            return sys.stdin.buffer.read()
-        return pathlib.Path(name).read_bytes()
+        if name != "-":
+            return path_of(name).read_bytes()
+        if sys.stdin is None:
+            raise Failure(2, "callscript: standard input is closed")
+        return sys.stdin.buffer.read()
     except OSError as error:
-        raise Failure(2, f"callscript: {name}: {error.strerror}") from None
+        raise Failure(2, f"callscript: {text.quoted(name)}: {error.strerror}") from None
 
 
 def write_file(name, data):
+    if name == "-":
+        # A stream without a buffer may take a part.
+        rest = memoryview(data)
+        while rest:
+            rest = rest[sys.stdout.buffer.write(rest) :]
+        return
     try:
-        if name == "-":
-            sys.stdout.buffer.write(data)
-            sys.stdout.buffer.flush()
-        else:
-            pathlib.Path(name).write_bytes(data)
-    except BrokenPipeError:
-        raise
+        path_of(name).write_bytes(data)
     except OSError as error:
-        raise Failure(2, f"callscript: {name}: {error.strerror}") from None
+        raise Failure(2, f"callscript: {text.quoted(name)}: {error.strerror}") from None
+
+
+def path_of(name):
+    # The empty name would be the folder that the command was called in.
+    if not name:
+        raise Failure(2, "callscript: expected the name of a file, found an empty one")
+    return pathlib.Path(name)
 
 
 def decoded(name, file):
     try:
         return binary.decode(file)
     except binary.BadScript as bad:
-        raise Failure(1, f"{name}: {bad}") from None
+        other = "" if b"\0" in file else "; it has no byte of 0: is it a script in text form?"
+        raise Failure(1, f"{name}: {bad}{other}") from None
 
 
 def parsed(name, file):
     """The script of a text, or all its mistakes."""
-    try:
-        source = file.decode()
-    except UnicodeDecodeError as error:
-        line = file.count(b"\n", 0, error.start) + 1
-        column = len(file[file.rfind(b"\n", 0, error.start) + 1 : error.start].decode()) + 1
-        message = f"expected text in UTF-8, found the byte 0x{file[error.start]:02x}"
-        raise Failure(1, f"{name}:{line}:{column}: {message}") from None
+    if b"\0" in file:
+        raise Failure(1, f"{name}: expected a text, found a byte of 0: is it a script in binary form?")
+    source = file.decode("utf-8", "surrogateescape")
     script, mistakes = text.parse(source)
     if mistakes:
-        lines = source.split("\n")
+        lines = source.removeprefix("\ufeff").split("\n")
         said = [line for mistake in mistakes for line in mistake_lines(name, mistake, lines[mistake.line - 1])]
         raise Failure(1, *said, f"{name}: {len(mistakes)} mistake{'s' * (len(mistakes) != 1)}, nothing was made of it")
     return script
@@ -234,5 +261,20 @@ def mistake_lines(name, mistake, line):
     yield f"{name}:{mistake.line}:{mistake.column}: {mistake.message}"
     begin = max(mistake.column - 1 - 60, 0)
     part = line[begin : begin + 100].rstrip()
-    yield "    " + part
-    yield "    " + "".join("\t" if c == "\t" else " " for c in line[begin : mistake.column - 1]) + "^"
+    dots = ".." if begin else ""
+    yield "    " + dots + "".join(map(shown, part)) + (".." if begin + 100 < len(line) else "")
+    yield "    " + " " * len(dots) + "".join(map(blank, line[begin : mistake.column - 1])) + "^"
+
+
+def shown(character):
+    """A character as it stands in a line that is shown: what a terminal would obey is shown as "?"."""
+    return character if character.isprintable() or character in "\t " else "?"
+
+
+def blank(character):
+    """Blanks as wide as a character is shown."""
+    if character == "\t":
+        return "\t"
+    if unicodedata.combining(character):
+        return ""
+    return "  " if unicodedata.east_asian_width(character) in "WF" else " "

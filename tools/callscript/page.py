@@ -1,8 +1,9 @@
 """A run as one HTML page, with nothing beside it to load: the calls and answers, and the state after the chosen one."""
 import html
 import json
+import re
 
-from .terminal import tone, verdict
+from .terminal import agreement, shortened, tone
 
 STYLE = """\
 :root { color-scheme: light dark; --ink: #1b1f24; --paper: #fff; --soft: #5b6470; --line: #d5dae0; --mark: #e6effb;
@@ -13,17 +14,17 @@ STYLE = """\
 * { box-sizing: border-box; }
 body { margin: 0; font: 15px/1.45 system-ui, "DejaVu Sans", sans-serif; color: var(--ink); background: var(--paper);
   height: 100vh; display: grid; grid-template-rows: auto minmax(0, 1fr) auto; }
-header { padding: 12px 20px; border-bottom: 1px solid var(--line); }
+header { padding: 12px 20px; border-bottom: 1px solid var(--line); max-height: 35vh; overflow: auto; }
 h1 { margin: 0; font-size: 20px; }
 header p { margin: 4px 0 0; color: var(--soft); max-width: 110ch; }
 header .about { color: inherit; }
-.wrong { color: var(--wrong); font-weight: 600; }
+.wrong, .wrong a { color: var(--wrong); font-weight: 600; }
 main { display: grid; grid-template-columns: minmax(0, 11fr) minmax(0, 9fr); }
 ol { list-style: none; margin: 0; padding: 8px 0 24px; border-right: 1px solid var(--line); overflow: auto; }
 li { scroll-margin: 80px; }
 li a { display: grid; grid-template-columns: 4ch minmax(0, 1fr); gap: 0 12px; padding: 5px 16px 5px 12px;
   color: inherit; text-decoration: none; border-left: 4px solid transparent; }
-li a:hover, li a:focus { background: var(--mark); outline: none; }
+li a:hover { background: var(--mark); }
 li.chosen a { background: var(--mark); border-left-color: #2f6fc4; }
 .number { color: var(--soft); text-align: right; grid-row: 1 / span 9; }
 code, .words { font: 13px/1.45 ui-monospace, "DejaVu Sans Mono", monospace; overflow-wrap: anywhere; }
@@ -40,10 +41,13 @@ aside p { margin: 0; color: var(--soft); }
 .row.new { background: var(--new); border-color: var(--good); }
 .row.gone { background: var(--gone); border-color: var(--wrong); text-decoration: line-through; }
 .memory .words { white-space: pre-wrap; }
+.memory b { display: inline-block; min-width: 5ch; text-align: right; }
 .name { color: var(--soft); }
 footer { padding: 6px 20px; border-top: 1px solid var(--line); color: var(--soft); font-size: 13px; }
 @media (max-width: 800px) { main { grid-template-columns: 1fr; grid-template-rows: 3fr 2fr; }
   ol { border-right: 0; border-bottom: 2px solid var(--line); } }
+@media (max-height: 560px) { body { height: auto; display: block; } header { max-height: none; }
+  ol, aside { max-height: 80vh; } }
 @media print { body { height: auto; display: block; } ol, aside { overflow: visible; } }
 """
 
@@ -52,7 +56,9 @@ footer { padding: 6px 20px; border-top: 1px solid var(--line); color: var(--soft
 PROGRAM = """\
 const calls = document.querySelectorAll("ol li");
 const state = document.getElementById("state");
+const after = document.getElementById("after");
 let chosen = 0;
+document.getElementById("hint").textContent = "Choose a call, or go on with the arrow keys, Home and End.";
 function minus(these, those) {
   const left = those.slice();
   return these.filter(row => { const at = left.indexOf(row); if (at >= 0) left.splice(at, 1); return at < 0; });
@@ -67,11 +73,16 @@ function label(row) { return rows[row].split("</b>")[0]; }
 function kindOf(title) { return titles[title].replace(/:.*/, ""); }
 function choose(number) {
   chosen = Math.max(0, Math.min(calls.length - 1, number));
-  calls.forEach((call, i) => call.classList.toggle("chosen", i === chosen));
+  calls.forEach((call, i) => {
+    call.classList.toggle("chosen", i === chosen);
+    call.firstChild.toggleAttribute("aria-current", i === chosen);
+  });
+  calls[chosen].scrollIntoView({ block: "nearest" });
+  after.textContent = chosen > 0 ? "After call " + (chosen - 1) : "A new target";
   const before = chosen > 0 ? states[chosen - 1] : states[0];
-  state.replaceChildren(element("h2", "", chosen > 0 ? "After call " + (chosen - 1) : "A new target"));
   const kinds = states[chosen].map(section => kindOf(section[0]));
   const gone = before.filter(section => !kinds.includes(kindOf(section[0]))).map(section => [section[0], []]);
+  state.replaceChildren();
   for (const [title, now] of states[chosen].concat(gone)) {
     const same = before.find(section => kindOf(section[0]) === kindOf(title));
     const was = same ? same[1] : [];
@@ -96,11 +107,16 @@ function follow() {
 }
 addEventListener("hashchange", follow);
 addEventListener("keydown", event => {
-  const step = { ArrowDown: 1, ArrowRight: 1, j: 1, ArrowUp: -1, ArrowLeft: -1, k: -1 }[event.key];
-  if (!step || event.ctrlKey || event.altKey || event.metaKey) return;
+  const held = event.ctrlKey || event.altKey || event.metaKey || event.shiftKey;
+  if (held || state.parentNode.contains(event.target)) return;
+  const last = calls.length - 1;
+  const steps = { ArrowDown: chosen + 1, j: chosen + 1, ArrowUp: chosen - 1, k: chosen - 1, Home: 0, End: last };
+  const to = steps[event.key];
+  if (to === undefined) return;
   event.preventDefault();
-  const next = Math.max(0, Math.min(calls.length - 1, chosen + step));
-  location.hash = next > 0 ? "#call-" + (next - 1) : "#new";
+  const next = Math.max(0, Math.min(last, to));
+  history.replaceState(null, "", next > 0 ? "#call-" + (next - 1) : "#new");
+  choose(next);
 });
 follow();
 """
@@ -108,16 +124,6 @@ follow();
 
 def page(run, name):
     """The page of a run of the script of this name."""
-    count = len(run.steps)
-    title, *about = [line for line in run.script.about if line] or [name]
-    head = [f"<h1>{html.escape(title)}</h1>"]
-    if about:
-        head.append(f'<p class="about">{html.escape(" ".join(about))}</p>')
-    size = f"memory {run.script.memory} bytes, {count} call{'s' * (count != 1)}"
-    head.append(f"<p>{html.escape(name)}: {size}. Choose a call, or go on with the arrow keys.</p>")
-    head += [f'<p class="wrong">{html.escape(line)}</p>' for line in run.stray]
-    if run.compared:
-        head.append(f'<p class="{"wrong" if run.differing or run.stray else ""}">{html.escape(verdict(run))}</p>')
     calls = ['<li id="new"><a href="#new"><span class="number"></span><span>a new target</span></a></li>']
     calls += [call_item(step) for step in run.steps]
     data = tables([run.before] + [step.after for step in run.steps])
@@ -133,17 +139,21 @@ def page(run, name):
 </head>
 <body>
 <header>
-{chr(10).join(head)}
+{heading(run, name)}
 </header>
 <main>
-<ol>
+<ol tabindex="0" aria-label="calls and answers">
 {chr(10).join(calls)}
 </ol>
-<aside id="state" aria-live="polite"><noscript>The state after each call is shown by a script.</noscript></aside>
+<aside tabindex="0" aria-label="the state">
+<h2 id="after" aria-live="polite"></h2>
+<noscript>The state after each call is shown by a script, which does not run here.</noscript>
+<div id="state"></div>
+</aside>
 </main>
 <footer>The answers are the printout's. The lists, headers, queue and bytes are worked out from the calls and the
 answers alone, to be looked at; they are not part of the printout. A row that came or changed with the chosen call is
-green, one that left with it is struck out.</footer>
+green, one that left with it is struck out. Of an entry, bytes=0..8 are the bytes 0 to 7.</footer>
 <script>
 {data}{PROGRAM}</script>
 </body>
@@ -151,18 +161,35 @@ green, one that left with it is struck out.</footer>
 """
 
 
+def heading(run, name):
+    """What the script is about, and what is wrong with the run as a whole."""
+    count = len(run.steps)
+    title, *about = [line for line in run.script.about if line] or [name]
+    lines = [f"<h1>{html.escape(title)}</h1>"]
+    if about:
+        lines.append(f'<p class="about">{html.escape(" ".join(about))}</p>')
+    size = f"memory {run.script.memory} bytes, {count} call{'s' * (count != 1)}"
+    lines.append(f'<p>{html.escape(name)}: {size}. <span id="hint"></span></p>')
+    for line in run.summary:
+        said = re.sub(r"at call ([0-9]+)$", r'at <a href="#call-\1">call \1</a>', html.escape(line))
+        lines.append(f'<p class="wrong">{said}</p>')
+    if run.compared and not run.summary:
+        lines.append(f"<p>{html.escape(agreement(run))}</p>")
+    return "\n".join(lines)
+
+
 def call_item(step):
     """A call in the list: its number, its text, its answer, and what there is to say of it."""
-    word, _blank, rest = step.said.partition(" ")
+    word, _blank, rest = shortened(step.said).partition(" ")
     parts = [
         f'<span class="number">{step.number}</span>',
-        f"<code>{words(step.call)}</code>",
+        f"<code>{words(shortened(step.call))}</code>",
         *([f'<span class="comment">{html.escape(step.comment)}</span>'] if step.comment else []),
         f'<span class="words {tone(step.answer)}"><span class="word">{html.escape(word)}</span> {words(rest)}</span>',
     ]
-    if step.card:
-        parts.append(f'<span class="words wrong">the card: {html.escape(step.card)}</span>')
-    parts += [f'<span class="wrong">{html.escape(note)}</span>' for note in step.notes]
+    if step.card is not None:
+        parts.append(f'<span class="words wrong">the card: {html.escape(shortened(step.card))}</span>')
+    parts += [f'<span class="words wrong">{html.escape(shortened(note))}</span>' for note in step.notes]
     return f'<li id="call-{step.number}"><a href="#call-{step.number}">{"".join(parts)}</a></li>'
 
 

@@ -3,7 +3,7 @@ import dataclasses
 import re
 
 from .calls import ACKS, LISTS
-from .text import write_bits
+from .text import visible, write_bits
 
 # The numbers behind each word, by name.
 ANSWERS = {
@@ -80,7 +80,7 @@ def read_answer(kind, text):
 
 def read_numbers(names, words):
     """The numbers by name; none where there are others, or words that are no decimal numbers."""
-    if len(names) != len(words) or not all(DECIMAL.fullmatch(word) for word in words):
+    if len(names) != len(words) or not all(DECIMAL.fullmatch(word) and int(word) < 2**64 for word in words):
         return None
     return dict(zip(names, map(int, words)))
 
@@ -96,17 +96,19 @@ class Printout:
 
 
 def read(source, script):
-    """The printout in a text. Every text is one: a line that answers no call is a stray one."""
+    """The printout in a text. Every text is one: a line that answers no call, or not in its turn, is a stray one."""
     printout = Printout({}, [])
-    lines = source.removesuffix("\n").split("\n") if source else []
+    lines = source.removeprefix("\ufeff").removesuffix("\n").split("\n") if source else []
+    last = -1
     for at, line in enumerate(lines, 1):
         line = line.removesuffix("\r")
         first, blank, rest = line.partition(" ")
         number = int(first) if DECIMAL.fullmatch(first) else -1
         if first == "BAD_SCRIPT" and len(lines) == 1:
             printout.verdict = rest
-        elif 0 <= number < len(script.calls) and blank and number not in printout.answers:
+        elif last < number < len(script.calls) and blank:
             printout.answers[number] = read_answer(script.calls[number].kind.name, rest)
+            last = number
         else:
             printout.stray.append((at, line))
     return printout
@@ -116,9 +118,9 @@ def read(source, script):
 
 
 def say(answer):
-    """The answer with the names of its fields."""
+    """The answer with the names of its fields; a text that is no answer as it is, in quotes."""
     if not answer.word:
-        return answer.text
+        return f'"{visible(answer.text)}"'
     if answer.word == "EVENT":
         return "EVENT " + say_event(answer.values)
     return " ".join([answer.word] + [say_value(name, value) for name, value in answer.values.items()])
@@ -141,4 +143,7 @@ def say_event(event):
     if bare:
         names = [name for name in EVENT_NUMBERS if name in BARE_EVENT or event[name] != 0]
     words = [say_value(name, event[name]) for name in names if name != "gap" or event[name] != 0]
+    if event["kind"] == "SEARCH":
+        # The list of a search's event is always 0, and no list.
+        words = [word.replace("list=priority", "list=0") for word in words]
     return " ".join([event["kind"], event["fail"], *words])

@@ -4,8 +4,9 @@ import dataclasses
 from .book import Book
 from .printout import Answer, read, read_answer, say
 from .state import sections
-from .text import write_call
+from .text import visible, write_call
 
+# Stands for a line that is missing.
 NO_ANSWER = Answer("(no answer)")
 
 
@@ -13,7 +14,7 @@ NO_ANSWER = Answer("(no answer)")
 class Step:
     """One call: its text, its comment, its answer with field names, what is wrong with it, and the state after it.
 
-    `card` is what a card answered, where that is something else than the answer.
+    `card` is what a card answered, where that is something else than the answer; None where it is the same.
     """
 
     number: int
@@ -22,7 +23,7 @@ class Step:
     answer: Answer
     said: str
     notes: list
-    card: str
+    card: object
     after: list
 
 
@@ -31,14 +32,30 @@ class Run:
     script: object
     before: list
     steps: list
-    # Lines of the printouts that answer no call.
+    # What is wrong with the lines of the printouts beside the answers.
     stray: list
     compared: bool
 
     @property
     def differing(self):
         """The numbers of the calls that the card answers in another way."""
-        return [step.number for step in self.steps if step.card]
+        return [step.number for step in self.steps if step.card is not None]
+
+    @property
+    def doubtful(self):
+        """The numbers of the calls whose answer is not the one that was expected."""
+        return [step.number for step in self.steps if step.notes]
+
+    @property
+    def summary(self):
+        """What is wrong with the run as a whole: a line for each thing, none where all is as expected."""
+        lines = list(self.stray)
+        if self.doubtful:
+            lines.append(f"{some(self.doubtful, 'answer')} not as expected, the first at call {self.doubtful[0]}")
+        if self.differing:
+            count = f"{len(self.differing)} of {len(self.steps)} calls"
+            lines.append(f"the card differs at {count}; its first fault is at call {self.differing[0]}")
+        return lines
 
 
 def run_of(script, printout, card=None):
@@ -59,29 +76,39 @@ def run_of(script, printout, card=None):
                 call=write_call(call, script.portals),
                 comment=script.comments.get(number, ""),
                 answer=answer,
-                said=say(answer),
+                said=said_of(call, answer),
                 notes=notes,
-                card="" if other.text == answer.text else say(other),
+                card=None if other.text == answer.text else said_of(call, other),
                 after=sections(book, script.portals),
             )
         )
     return Run(script, before, steps, strays("the printout", answers) + strays("the card", others), card is not None)
 
 
+def some(things, name):
+    return f"{len(things)} {name}{' is' if len(things) == 1 else 's are'}"
+
+
+def said_of(call, answer):
+    """An answer with the names of its fields, or what stands in its place."""
+    if answer is NO_ANSWER:
+        return answer.text
+    return say(answer) if answer.word else f"{say(answer)}, which is no answer to {call.kind.name}"
+
+
 def notes_on(book, call, answer):
     """What is wrong with an answer, as far as the calls and answers before it tell."""
-    if answer is NO_ANSWER:
-        return ["the printout has no line for this call"]
-    notes = [] if answer.word else [f"this is no answer to {call.kind.name}"]
     expected = book.expected(call)
-    if expected != answer.text:
-        right = say(read_answer(call.kind.name, expected))
-        notes.append(f"after the calls and answers before it, document 01 gives: {right}")
-    return notes
+    if expected == answer.text:
+        return []
+    right = say(read_answer(call.kind.name, expected))
+    return [f"after the calls and answers before it, document 01 gives: {right}"]
 
 
 def strays(whose, printout):
     if printout is None:
         return []
-    lines = [f"{whose}, line {at}, answers no call: {line}" for at, line in printout.stray]
+    lines = [f"{whose}, line {at}, answers no call in its turn: {visible(line)}" for at, line in printout.stray[:5]]
+    if len(printout.stray) > 5:
+        lines.append(f"{whose} has {len(printout.stray) - 5} more such lines")
     return lines + ([f"{whose} says BAD_SCRIPT {printout.verdict}"] if printout.verdict else [])

@@ -2,9 +2,9 @@
 import dataclasses
 
 from .book import EVENTS, HEADERS, SLOTS
-from .calls import ANY, LISTS, NO_COUNTER
+from .calls import BY_NAME, LISTS
 from .printout import say_event, say_value
-from .text import write_bits, write_options
+from .text import write_options, write_value
 
 # So many bytes of memory in a row, and so many rows at most.
 ROW = 16
@@ -21,13 +21,13 @@ class Row:
 
 def sections(book, portals):
     """Titles with their rows: lists in link order, headers and events from the oldest on. Empty lists are left out."""
-    names = {number: f" ({name})" for name, number in portals.items()}
+    # A portal with two names goes by the first.
+    names = {number: f" ({name})" for name, number in reversed(portals.items())}
     found = []
-    for portal in sorted({entry["portal"] for entry in book.entries}):
-        for number, name in enumerate(LISTS):
-            linked = [e for e in book.entries if (e["portal"], e["list"], e.retired) == (portal, number, False)]
-            if linked:
-                found.append((f"portal {portal}{names.get(portal, '')}, {name} list", list(map(entry_row, linked))))
+    for portal, number in sorted({(entry["portal"], entry["list"]) for entry in book.entries if not entry.retired}):
+        linked = [e for e in book.entries if (e["portal"], e["list"], e.retired) == (portal, number, False)]
+        name = f"{LISTS[number]} list" if number < len(LISTS) else f"list {number}"
+        found.append((f"portal {portal}{names.get(portal, '')}, {name}", list(map(entry_row, linked))))
     retired = [entry for entry in book.entries if entry.retired]
     if retired:
         found.append(("retired entries, in which messages wait", list(map(entry_row, retired))))
@@ -43,7 +43,8 @@ def sections(book, portals):
     if counters:
         found.append(("counters that are not 0", counters))
     registers = " ".join(f"{name}={value}" for name, value in book.registers.items())
-    found.append(("registers and slots", [Row("registers", registers), Row("slots", f"{len(book.entries)} of {SLOTS}")]))
+    slots = f"{len(book.entries)} of {SLOTS}"
+    found.append(("registers and slots", [Row("registers", registers), Row("slots", slots)]))
     memory = memory_rows(book.memory)
     if memory:
         found.append(("memory, where it is not 0", memory))
@@ -51,25 +52,23 @@ def sections(book, portals):
 
 
 def entry_row(entry):
-    end = entry["start"] + entry["length"]
-    words = [f"user={entry['user']}", write_options(entry["options"]), f"bytes={entry['start']}..{end}"]
-    if entry.local or "MANAGE_LOCAL" in words[1]:
+    fields = {field.name: field for field in BY_NAME["append"].named}
+    options = write_options(entry["options"])
+    words = [f"user={entry['user']}", options, f"bytes={entry['start']}..{entry['start'] + entry['length']}"]
+    if "MANAGE_LOCAL" in options:
         words.append(f"local={entry.local}")
-    if entry["min_free"]:
-        words.append(f"min_free={entry['min_free']}")
-    words += [f"match={write_bits(entry['match'])}"]
-    if entry["ignore"]:
-        words.append(f"ignore={'all' if entry['ignore'] == 2**64 - 1 else write_bits(entry['ignore'])}")
-    words += [f"{name}={entry[name]}" for name in ("uid", "nid", "pid") if entry[name] != ANY]
-    if entry["counter"] != NO_COUNTER:
-        words.append(f"counter={entry['counter']}")
+    words.append(f"match={write_value(fields['match'], entry['match'])}")
+    for name in ("ignore", "min_free", "uid", "nid", "pid", "counter"):
+        if entry[name] != fields[name].default:
+            words.append(f"{name}={write_value(fields[name], entry[name])}")
     return Row(f"entry {entry.handle}", " ".join(words))
 
 
 def header_row(header, names):
     shown = ("nid", "pid", "uid", "match", "requested", "accepted", "offset", "place", "data")
     words = " ".join(say_value(name, header.event[name]) for name in shown)
-    return Row(f"{header.kind} in entry {header.entry.handle}", f"portal={header.portal}{names.get(header.portal, '')} {words}")
+    portal = f"portal={header.portal}{names.get(header.portal, '')}"
+    return Row(f"{header.kind} in entry {header.entry.handle}", f"{portal} {words}")
 
 
 def event_row(event):

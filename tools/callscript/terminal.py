@@ -1,4 +1,6 @@
-"""A run in the terminal: the number of each call, the call, its answer with field names, and what changed."""
+"""A run in the terminal: the number of each call, the call, its answer with field names, and the state if wanted."""
+from .book import DENIALS
+from .text import visible
 
 COLOURS = {
     "number": "2",
@@ -10,7 +12,8 @@ COLOURS = {
     "wrong": "31;1",
     "state": "2",
 }
-DENIED = ("DROPPED", "PERM", "OP")
+# Of a call with a long payload so much is shown.
+CALL_MOST = 400
 
 
 def painter(wanted):
@@ -22,30 +25,34 @@ def tone(answer):
     """What kind of answer it is, by the name of its colour."""
     if not answer.word:
         return "wrong"
-    return "refused" if answer.word == "REFUSED" else "denied" if answer.word in DENIED else "good"
+    return "refused" if answer.word == "REFUSED" else "denied" if answer.word in DENIALS else "good"
+
+
+def shortened(text):
+    """A call or an answer as it is shown: of a long one the beginning."""
+    return text if len(text) <= CALL_MOST else f"{text[:CALL_MOST]}.. ({len(text):,} characters)"
 
 
 def show(run, with_state, colour):
     """The lines of a run."""
     paint = painter(colour)
     count = len(run.steps)
-    yield from (paint("comment", f"# {line}".rstrip()) for line in run.script.about)
+    yield from (paint("comment", f"# {visible(line)}".rstrip()) for line in run.script.about)
     yield f"memory {run.script.memory} bytes, {count} call{'s' * (count != 1)}"
     width = len(str(max(count - 1, 0)))
     margin = " " * (width + 2)
     for step in run.steps:
-        comment = paint("comment", "  # " + step.comment) if step.comment else ""
-        yield f"{paint('number', str(step.number).rjust(width))}  {paint('call', step.call)}{comment}"
-        yield f"{margin}{paint(tone(step.answer), step.said)}"
-        if step.card:
-            yield f"{margin}{paint('wrong', 'the card: ' + step.card)}"
-        for note in step.notes:
-            yield f"{margin}{paint('wrong', '! ' + note)}"
+        comment = paint("comment", "  # " + visible(step.comment)) if step.comment else ""
+        yield f"{paint('number', str(step.number).rjust(width))}  {paint('call', shortened(step.call))}{comment}"
+        yield f"{margin}{paint(tone(step.answer), shortened(step.said))}"
+        if step.card is not None:
+            yield f"{margin}{paint('wrong', 'the card: ' + shortened(step.card))}"
+        yield from (f"{margin}{paint('wrong', '! ' + shortened(note))}" for note in step.notes)
         if with_state:
             yield from (margin + "    " + paint("state", line) for line in state_lines(step.after))
-    yield from (paint("wrong", "! " + line) for line in run.stray)
-    if run.compared:
-        yield verdict(run)
+    yield from (paint("wrong", "! " + line) for line in run.summary)
+    if run.compared and not run.summary:
+        yield agreement(run)
 
 
 def state_lines(sections):
@@ -54,12 +61,6 @@ def state_lines(sections):
         yield from (f"  {row.label}  {row.words}" for row in rows)
 
 
-def verdict(run):
-    """What came of comparing a card's printout."""
-    differing = run.differing
-    if not differing and not run.stray:
-        return f"the card answers all {len(run.steps)} calls as the printout does"
-    if not differing:
-        return "the card answers the calls as the printout does, but a printout has other lines too"
-    first = differing[0]
-    return f"the card differs at {len(differing)} of {len(run.steps)} calls; its first fault is at call {first}"
+def agreement(run):
+    """What is said of a card that answers as it should."""
+    return f"the card answers all {len(run.steps)} calls as the printout does"

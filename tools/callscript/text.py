@@ -10,10 +10,14 @@ NAME = re.compile(r"[A-Za-z_][A-Za-z0-9_-]*")
 # A run of characters up to a blank or a comment: quoted parts may hold both; a quote that is not closed goes on to the
 # line's end.
 RUN = r'(?:"(?:\\.|[^"\\])*(?:"|\\?$)|[^\s#"])'
-# A word of a line, or a field: a name, =, and a value.
-WORD = re.compile(rf'(?P<name>[^\s#"=]+)(?:\s*=\s*(?P<value>{RUN}*))?|{RUN}+')
+# A value: blanks may stand around its "+".
+VALUE = rf"{RUN}+(?:\s*\+\s*{RUN}+)*"
+# A word of a line, or a field: a name, "=", and a value, unless the next field stands there.
+WORD = re.compile(rf'(?P<name>[^\s#"=]+)(?:\s*=(?!\s+[^\s#"=]+\s*=)\s*(?P<value>{VALUE})?|\s*=)?|{RUN}+')
 NUMBER = re.compile(r"0[xX][0-9a-fA-F](?:_?[0-9a-fA-F])*|[0-9](?:_?[0-9])*")
 ESCAPES = {"n": 10, "r": 13, "t": 9, "0": 0, "\\": 92, '"': 34}
+# What a byte that is not UTF-8 was read as (Python's surrogateescape).
+NOT_UTF8 = re.compile("[\udc80-\udcff]")
 
 
 @dataclasses.dataclass(frozen=True, order=True)
@@ -26,11 +30,11 @@ class Mistake:
 
 
 class Unexpected(Exception):
-    """A mistake within a line: its column, from 0, and what was expected."""
+    """Mistakes within a line: the column of each, from 0, and what was expected there."""
 
-    def __init__(self, column, message):
-        super().__init__(message)
-        self.column = column
+    def __init__(self, *found):
+        super().__init__(found)
+        self.found = found
 
 
 # ---- Reading
@@ -49,8 +53,9 @@ class Reader:
     def __init__(self):
         self.script = Script(0, [])
         self.mistakes = []
-        # The line that says the memory, or the first call that has none before it; how many calls were met, good or not.
+        # The line with the memory, or the one at which it was said that there is none.
         self.memory_line = None
+        # How many calls were met, good or not.
         self.met = 0
         # The bytes of head, contents and bodies so far.
         self.bytes = bodies_at(0)
@@ -59,106 +64,116 @@ class Reader:
     def wrong(self, column, message):
         self.mistakes.append(Mistake(self.line, column + 1, message))
 
+    def note(self, unexpected):
+        for column, message in unexpected.found:
+            self.wrong(column, message)
+
     def read_line(self, line, source):
         self.line = line
+        foreign = NOT_UTF8.search(source)
+        if foreign:
+            self.met += 1
+            self.wrong(foreign.start(), f"expected text in UTF-8, found the byte 0x{ord(foreign.group()) - 0xDC00:02x}")
+            return
         words = list(words_of(source))
         comment = source[words[-1].end() if words else 0 :].strip()
-        if not words:
-            # Up to the first line that is neither empty nor a comment.
-            if self.memory_line is None and not self.met and not self.script.portals:
-                self.script.about += [comment.removeprefix("#").strip()] * bool(comment)
-            return
-        column, word = words[0].start(), words[0].group()
-        readers = {"memory": self.read_memory, "portal": self.read_portal}
+        if words:
+            self.read_words(words, comment.removeprefix("#").strip())
+        elif comment and self.memory_line is None and not self.met and not self.script.portals:
+            self.script.about.append(comment.removeprefix("#").strip())
+
+    def read_words(self, words, comment):
+        """A line that is neither empty nor a comment."""
         try:
-            if word in readers:
-                readers[word](words)
-            elif word in BY_NAME:
-                if comment:
-                    self.script.comments[self.met] = comment.removeprefix("#").strip()
-                self.read_call(BY_NAME[word], words)
+            if words[0].group() == "memory":
+                self.read_memory(words)
+            elif words[0].group() == "portal":
+                self.read_portal(words)
             else:
-                self.met += 1
-                names = ["memory", "portal", *BY_NAME]
-                raise Unexpected(column, f'expected {one_of(names)}, found {quoted(word)}{hint(word, names)}')
-        except Unexpected as mistake:
-            self.wrong(mistake.column, str(mistake))
+                self.read_call(words, comment)
+        except Unexpected as mistakes:
+            self.note(mistakes)
 
     def read_memory(self, words):
         column = words[0].start()
         if self.memory_line is not None:
-            raise Unexpected(column, f"expected one memory line, before the first call (see line {self.memory_line})")
+            said = f"expected one memory line, before the first call (see line {self.memory_line})"
+            raise Unexpected((column, said))
         self.memory_line = self.line
         if len(words) != 2:
-            raise Unexpected(column, f"expected `memory BYTES`, found {len(words) - 1} words behind `memory`")
+            raise Unexpected((column, "expected `memory BYTES`"))
         self.script.memory = number_of(words[1].group(), words[1].start(), MEMORY_MOST)
 
     def read_portal(self, words):
+        name = (len(words) > 1 and words[1]["name"]) or ""
+        known = self.script.portals.get(name)
+        # The name is known from here on, whatever is wrong with the line.
+        self.script.portals.setdefault(name, 0)
         if len(words) != 3:
-            found = f"found {len(words) - 1} words behind `portal`"
-            raise Unexpected(words[0].start(), f"expected `portal NAME NUMBER`, {found}")
-        column, name = words[1].start(), words[1].group()
-        if not NAME.fullmatch(name):
-            raise Unexpected(column, f"expected a name of letters, digits, _ and -, found {quoted(name)}")
-        if name in self.script.portals:
-            raise Unexpected(column, f"expected a new name, {name} is portal {self.script.portals[name]} already")
-        # The name is known from here on, whatever is wrong with its number.
-        self.script.portals[name] = 0
+            raise Unexpected((words[0].start(), "expected `portal NAME NUMBER`"))
+        if not NAME.fullmatch(words[1].group()):
+            said = f"expected a name of letters, digits, _ and -, found {quoted(words[1].group())}"
+            raise Unexpected((words[1].start(), said))
+        if known is not None:
+            raise Unexpected((words[1].start(), f"expected a new name, {name} is portal {known} already"))
         self.script.portals[name] = number_of(words[2].group(), words[2].start(), PORTAL.largest)
 
-    def read_call(self, kind, words):
+    def read_call(self, words, comment):
+        column, word = words[0].start(), words[0].group()
+        kind = BY_NAME.get(word)
         self.met += 1
-        column = words[0].start()
+        if self.met == CALLS_MOST + 1:
+            self.wrong(column, f"expected at most {CALLS_MOST:,} calls, this is one more")
+        if kind is None:
+            names = ["memory", "portal", *BY_NAME]
+            meant = closest(words[0]["name"] or "", names)
+            if meant == "memory" and self.memory_line is None:
+                self.memory_line = self.line
+            raise Unexpected((column, f"expected {one_of(names)}, found {quoted(word)}{hint(meant)}"))
         if self.memory_line is None:
             self.memory_line = self.line
             self.wrong(column, "expected a line `memory BYTES` before the first call")
-        if self.met == CALLS_MOST + 1:
-            self.wrong(column, f"expected at most {CALLS_MOST:,} calls, this is one more")
         before = len(self.mistakes)
-        # A field whose value is bad stands here too: it was given.
-        values = {}
-        for word in words[1:]:
-            try:
-                field = self.field_of(kind, values, word)
-                values[field.name] = None
-                values[field.name] = value_of(field, word["value"], word.start("value"), self.script.portals)
-            except Unexpected as mistake:
-                self.wrong(mistake.column, str(mistake))
-        for field in kind.named:
-            if field.default is None and field.name not in values:
-                self.wrong(column, f"expected {field.name}={form_of(field)} in this {kind.name}")
+        values = self.read_fields(kind, words)
         if len(self.mistakes) == before:
+            self.script.comments.update({len(self.script.calls): comment} if comment else {})
             self.add(Call(kind, {field.name: values.get(field.name, field.default) for field in kind.named}), column)
 
-    def field_of(self, kind, values, word):
-        """The field that a word gives a value to."""
-        fields = {field.name: field for field in kind.named}
-        name = word["name"] or ""
-        if not fields:
-            raise Unexpected(word.start(), f"expected nothing behind {kind.name}, found {quoted(word.group())}")
-        if name not in fields:
-            names = ", ".join(fields)
-            found = f"found {quoted(name or word.group())}{hint(name, fields)}"
-            raise Unexpected(word.start(), f"expected a field of {kind.name} ({names}), {found}")
-        if name in values:
-            raise Unexpected(word.start(), f"expected each field once, {name} is there already")
+    def read_fields(self, kind, words):
+        """The values of the fields that the words of a call give; a value that is wrong is None."""
+        values = {}
+        skipped = None
+        for word, following in zip(words[1:], [*words[2:], None]):
+            try:
+                if word is not skipped:
+                    field = field_of(kind, values, word)
+                    # In `portal 0` the second word is the value, and no mistake of its own.
+                    skipped = None if word["value"] or is_field(kind, following) else following
+                    values[field.name] = self.read_value(field, word)
+            except Unexpected as mistakes:
+                self.note(mistakes)
+        for field in kind.named:
+            if field.default is None and field.name not in values:
+                self.wrong(words[0].start(), f"expected {field.name}={form_of(field)} in this {kind.name}")
+        return values
+
+    def read_value(self, field, word):
         if not word["value"]:
-            values[name] = None
-            raise Unexpected(word.start(), f"expected {name}={form_of(fields[name])}")
-        return fields[name]
+            raise Unexpected((word.start(), f"expected {field.name}={form_of(field)}"))
+        return value_of(field, word["value"], word.start("value"), self.script.portals)
 
     def add(self, call, column):
         """Adds a good call, if the file has room for it."""
         had_room = self.bytes <= FILE_MOST
         self.bytes += bodies_at(1) - bodies_at(0) + call.size
         if had_room and self.bytes > FILE_MOST:
-            self.wrong(column, f"expected a script of at most {FILE_MOST:,} bytes, with this call it has {self.bytes:,}")
+            size = f"with this call it has {self.bytes:,}"
+            self.wrong(column, f"expected a script of at most {FILE_MOST:,} bytes, {size}")
         self.script.calls.append(call)
 
     def finish(self):
-        if self.memory_line is None and not self.met:
-            self.line = 1
-            self.wrong(0, "expected a line `memory BYTES`, found no call and no memory")
+        if self.memory_line is None:
+            self.wrong(0, "expected a line `memory BYTES`, found none in this text")
 
 
 def words_of(source):
@@ -174,14 +189,37 @@ def words_of(source):
         place = found.end()
 
 
+def field_of(kind, values, word):
+    """The field that a word is about, which is marked as given: None stands for its value."""
+    fields = {field.name: field for field in kind.named}
+    name = word["name"] or ""
+    if not fields:
+        raise Unexpected((word.start(), f"expected nothing behind {kind.name}, found {quoted(word.group())}"))
+    if name not in fields:
+        meant = closest(name, fields)
+        if meant:
+            values.setdefault(meant, None)
+        found = f"found {quoted(name or word.group())}{hint(meant)}"
+        raise Unexpected((word.start(), f"expected a field of {kind.name} ({', '.join(fields)}), {found}"))
+    if name in values:
+        raise Unexpected((word.start(), f"expected each field once, {name} is there already"))
+    values[name] = None
+    return fields[name]
+
+
+def is_field(kind, word):
+    """Whether a word is about a field, and not a value without its name."""
+    return word is None or word["value"] is not None or word["name"] in [field.name for field in kind.named]
+
+
 def number_of(word, column, largest):
     if not NUMBER.fullmatch(word):
-        raise Unexpected(column, f"expected a number, decimal or 0x and hex digits, found {quoted(word)}")
+        raise Unexpected((column, f"expected a number, decimal or 0x and hex digits, found {quoted(word)}"))
     is_hex = word[:2] in ("0x", "0X")
     digits = (word[2:] if is_hex else word).replace("_", "").lstrip("0") or "0"
     # A number of more digits than 2^64 has is not worked out.
     if len(digits) > 20 or int(digits, 16 if is_hex else 10) > largest:
-        raise Unexpected(column, f"expected a number from 0 to {largest}, found {quoted(word)}")
+        raise Unexpected((column, f"expected a number from 0 to {largest}, found {quoted(word)}"))
     return int(digits, 16 if is_hex else 10)
 
 
@@ -196,27 +234,40 @@ def value_of(field, word, column, portals):
         return names[word]
     if NUMBER.fullmatch(word):
         return number_of(word, column, field.largest)
-    raise Unexpected(column, f"expected {form_of(field, portals)} for {field.name}, found {quoted(word)}{hint(word, names)}")
+    found = f"found {quoted(word)}{hint(closest(word, names))}"
+    raise Unexpected((column, f"expected {form_of(field, portals)} for {field.name}, {found}"))
 
 
 def options_of(word, column, largest):
     """Options: names joined by "+", numbers of other bits among them; `none` alone for no option."""
     if word == "none":
         return 0
-    value = 0
-    for name in word.split("+"):
-        if name in OPTIONS:
-            bits = 1 << OPTIONS.index(name)
-        elif NUMBER.fullmatch(name):
-            bits = number_of(name, column, largest)
-        else:
-            raise Unexpected(column, f"expected options joined by + ({', '.join(OPTIONS)}), or `none`, "
-                                     f"found {quoted(name)}{hint(name, OPTIONS)}")  # fmt: skip
-        if value & bits:
-            raise Unexpected(column, f"expected each option once, found {name} again")
-        value |= bits
-        column += len(name) + 1
+    value, mistakes = 0, []
+    for part in word.split("+"):
+        name = part.strip()
+        at = column + len(part) - len(part.lstrip())
+        column += len(part) + 1
+        try:
+            bits = option_of(name, at, largest)
+            if value & bits:
+                raise Unexpected((at, f"expected each option once, found {name} again"))
+            value |= bits
+        except Unexpected as mistake:
+            mistakes += mistake.found
+    if mistakes:
+        raise Unexpected(*mistakes)
     return value
+
+
+def option_of(name, column, largest):
+    if name in OPTIONS:
+        return 1 << OPTIONS.index(name)
+    if NUMBER.fullmatch(name):
+        return number_of(name, column, largest)
+    if name == "none":
+        raise Unexpected((column, "expected `none` alone, or options joined by +"))
+    found = f"found {quoted(name)}{hint(closest(name, OPTIONS))}"
+    raise Unexpected((column, f"expected options joined by + ({', '.join(OPTIONS)}), or `none`, {found}"))
 
 
 def payload_of(word, column):
@@ -230,65 +281,81 @@ def payload_of(word, column):
     if end == len(word):
         return data
     if word[end] != "*":
-        raise Unexpected(column + end, f"expected the payload to end, or * and a number, found {quoted(word[end:])}")
+        said = f"expected the payload to end, or * and a number, found {quoted(word[end:])}"
+        raise Unexpected((column + end, said))
     times = number_of(word[end + 1 :], column + end + 1, FILE_MOST)
     if times * len(data) > FILE_MOST:
-        raise Unexpected(column, f"expected a payload of at most {FILE_MOST:,} bytes, this has {times * len(data):,}")
+        said = f"expected a payload of at most {FILE_MOST:,} bytes, this has {times * len(data):,}"
+        raise Unexpected((column, said))
     return data * times
 
 
 def hex_bytes(word, column):
+    """The bytes of the hex digits at a word's beginning, and where they end."""
     digits = re.match(r"[0-9a-fA-F]*", word).group()
-    if not digits or (len(digits) < len(word) and word[len(digits)] != "*"):
-        wrong = word[len(digits)]
-        raise Unexpected(column + len(digits), f'expected hex digits, "text" in quotes or - for a payload, found {quoted(wrong)}')
-    if len(digits) % 2:
-        raise Unexpected(column, f"expected two hex digits for each byte of the payload, found {len(digits)} digits")
-    return bytes.fromhex(digits), len(digits)
+    end = len(digits)
+    if not digits or (end < len(word) and word[end] != "*"):
+        said = f'expected hex digits, "text" in quotes, or - alone, for a payload, found {quoted(word[end])}'
+        raise Unexpected((column + end, said))
+    if end % 2:
+        raise Unexpected((column, f"expected two hex digits for each byte of the payload, found {end} digits"))
+    return bytes.fromhex(digits), end
 
 
 def quoted_bytes(word, column):
-    data = bytearray()
+    """The bytes of the quoted text at a word's beginning, and where it ends."""
+    data, mistakes = bytearray(), []
     place = 1
     while place < len(word) and word[place] != '"':
-        character = word[place]
-        escaped = word[place + 1 : place + 2]
+        character, escaped = word[place], word[place + 1 : place + 2]
         if character != "\\":
             if not " " <= character <= "~":
-                raise Unexpected(column + place, f"expected printable ASCII in quotes, found {ascii(character)}: write it as \\xNN")
-            data.append(ord(character))
+                said = f"expected printable ASCII in quotes, found {ascii(character)}: write its bytes as \\xNN"
+                mistakes.append((column + place, said))
+            data += character.encode("utf-8", "replace")
             place += 1
-        elif escaped in ESCAPES and escaped:
+        elif escaped in ESCAPES:
             data.append(ESCAPES[escaped])
             place += 2
-        elif escaped == "x" and re.fullmatch(r"[0-9a-fA-F]{2}", word[place + 2 : place + 4]):
+        elif re.fullmatch(r"x[0-9a-fA-F]{2}", word[place + 1 : place + 4]):
             data.append(int(word[place + 2 : place + 4], 16))
             place += 4
         else:
-            raise Unexpected(column + place, r'expected \n, \r, \t, \0, \\, \" or \x and two hex digits')
+            mistakes.append((column + place, r'expected \n, \r, \t, \0, \\, \" or \x and two hex digits'))
+            place += 2
     if place >= len(word):
-        raise Unexpected(column, 'expected a closing " on this line')
+        mistakes = mistakes or [(column, 'expected a closing " on this line')]
+    if mistakes:
+        raise Unexpected(*mistakes)
     return bytes(data), place + 1
 
 
 # ---- What was expected
 
 
+def visible(text):
+    """The text with its control characters written out, so that a terminal shows them and does not obey."""
+    return "".join(c if c.isprintable() or c == " " else c.encode("unicode_escape").decode() for c in text)
+
+
 def quoted(word):
+    word = visible(word)
     mark = "`" if '"' in word else '"'
     return mark + (word if len(word) <= 40 else word[:40] + "..") + mark
 
 
 def one_of(names):
-    names = list(names)
     return ", ".join(names[:-1]) + " or " + names[-1]
 
 
-def hint(word, names):
-    """What the word may have been meant as."""
-    close = difflib.get_close_matches(word.lower(), [name.lower() for name in names], 1)
-    found = [name for name in names if [name.lower()] == close]
-    return f" (did you mean {found[0]}?)" if found else ""
+def closest(word, names):
+    """The name that a word may have been meant as, or ""."""
+    by_lower = {name.lower(): name for name in names}
+    return next((by_lower[found] for found in difflib.get_close_matches(word.lower()[:80], by_lower, 1)), "")
+
+
+def hint(name):
+    return f" (did you mean {name}?)" if name else ""
 
 
 def form_of(field, portals=()):
