@@ -43,6 +43,7 @@ ANSWERS_OF = {
     "read_register": ("REGISTER",),
 }
 DECIMAL = re.compile(r"0|[1-9][0-9]{0,19}")
+BYTES = re.compile(r"-|(?:[0-9a-f]{2})+")
 
 
 @dataclasses.dataclass(frozen=True)
@@ -58,24 +59,24 @@ class Answer:
 def read_answer(kind, text):
     """The answer that a text gives to a call of this kind."""
     word, *rest = text.split(" ")
-    values = None
-    if word == "REFUSED":
-        values = {"refusal": rest[0]} if len(rest) == 1 and rest[0] in REFUSALS else None
-    elif word not in ANSWERS_OF[kind]:
-        values = None
-    elif word == "EVENT":
-        if rest[:1] and rest[0] in EVENT_KINDS and rest[1:2] and rest[1] in FAIL_TYPES:
-            values = read_numbers(EVENT_NUMBERS, rest[2:])
-            values = values and {"kind": rest[0], "fail": rest[1], **values}
-    elif kind == "get" and word in ("PRIORITY", "OVERFLOW"):
-        values = read_numbers(ANSWERS[word], rest[:-1])
-        if values is not None and re.fullmatch("-|(?:[0-9a-f]{2})+", rest[-1]):
-            values["bytes"] = rest[-1]
-        else:
-            values = None
-    else:
-        values = read_numbers(ANSWERS[word], rest)
+    values = read_values(kind, word, rest)
     return Answer(text) if values is None else Answer(text, word, values)
+
+
+def read_values(kind, word, rest):
+    """What stands behind the word of an answer, by name; none where it is no answer to a call of this kind."""
+    if word == "REFUSED":
+        return {"refusal": rest[0]} if len(rest) == 1 and rest[0] in REFUSALS else None
+    if word not in ANSWERS_OF[kind]:
+        return None
+    if word == "EVENT":
+        named = len(rest) > 2 and rest[0] in EVENT_KINDS and rest[1] in FAIL_TYPES
+        numbers = read_numbers(EVENT_NUMBERS, rest[2:]) if named else None
+        return numbers and {"kind": rest[0], "fail": rest[1], **numbers}
+    if kind == "get" and word in ("PRIORITY", "OVERFLOW"):
+        numbers = read_numbers(ANSWERS[word], rest[:-1])
+        return {**numbers, "bytes": rest[-1]} if numbers and BYTES.fullmatch(rest[-1]) else None
+    return read_numbers(ANSWERS[word], rest)
 
 
 def read_numbers(names, words):
