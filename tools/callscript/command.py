@@ -179,7 +179,8 @@ def run_for(options):
     card = None if options.card is None else printout_in(options.card)
     answers = printout.read(said, script)
     if card is not None and (answers.stray or len(answers.answers) != len(script.calls)):
-        lacking = f"it answers {len(answers.answers)} of {len(script.calls)} calls, with {len(answers.stray)} other lines"
+        count = f"{len(answers.answers)} of {len(script.calls)} calls"
+        lacking = f"it answers {count}, with {len(answers.stray)} other lines"
         name = options.printout or "bin/replay"
         raise Failure(2, f"callscript: {name}: no printout of this script to compare a card with: {lacking}")
     return run.run_of(script, said, card)
@@ -196,7 +197,7 @@ def replayed(file):
         done = subprocess.run([str(program), "-"], input=file, stdout=subprocess.PIPE, check=False)
     except OSError as error:
         raise Failure(2, f"callscript: {program}: {error.strerror}") from None
-    if done.returncode not in (0, 1):
+    if done.returncode != 0:
         raise Failure(2, "callscript: bin/replay gave no printout; one from a file can be shown with --printout FILE")
     return done.stdout.decode("ascii", "backslashreplace")
 

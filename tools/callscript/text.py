@@ -43,8 +43,8 @@ class Unexpected(Exception):
 def parse(source):
     """The script of a text and its mistakes, in order. With a mistake the script is what could be read of it."""
     reader = Reader()
-    for line, words in enumerate(source.removeprefix("\ufeff").split("\n"), 1):
-        reader.read_line(line, words.removesuffix("\r"))
+    for number, line in enumerate(source.removeprefix("\ufeff").split("\n"), 1):
+        reader.read_line(number, line)
     reader.finish()
     return reader.script, sorted(reader.mistakes)
 
