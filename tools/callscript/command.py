@@ -18,7 +18,7 @@ headers and the event queue after each call.
 FORM = """\
 The text form. One call a line, `#` begins a comment:
 
-    memory 16                      # the size of the memory, before the first call
+    memory 16                      # the size of the memory in bytes, before the first call
     portal halo 3                  # from here on `halo` is a name for portal 3
 
     append portal=halo list=overflow options=OP_PUT+MANAGE_LOCAL length=8 ignore=all user=7
@@ -36,7 +36,12 @@ counting, operation; register drop, permission, operation; counter none; uid, ni
 joined by +:
 {options};
 `none` for no option, and other bits as numbers. A payload is hex digits, two for a byte; or printable text in quotes,
-with \\n \\r \\t \\0 \\\\ \\" and \\xNN; or - for no bytes; *N behind it repeats it N times.
+with \\n \\r \\t \\0 \\\\ \\" and \\xNN; or - for no bytes; *N behind it repeats it N times. A script has at most 1,024
+calls and in binary form 32,768 bytes; its memory, and the length of a get, are at most 16,384.
+
+A run. Behind the call and its answer stands, where a card is compared, the card's other answer; and where an answer is
+not the one that was to be expected after the calls and answers before it, what was. This is worked out by the command
+itself, which is not proved: a card is judged by comparing it with the printout of bin/replay, which is.
 
 Exit status: 0 all is well; 1 the text has mistakes, the script is bad, an answer is not as expected, or the card
 differs; 2 wrong usage, a file that cannot be read or written, or a printout that could not be had.

@@ -3,7 +3,7 @@ import html
 import json
 import re
 
-from .terminal import agreement, shortened, tone
+from .terminal import shortened, tone
 
 STYLE = """\
 :root { color-scheme: light dark; --ink: #1b1f24; --paper: #fff; --soft: #5b6470; --line: #d5dae0; --mark: #e6effb;
@@ -80,10 +80,15 @@ function choose(number) {
   calls[chosen].scrollIntoView({ block: "nearest" });
   after.textContent = chosen > 0 ? "After call " + (chosen - 1) : "A new target";
   const before = chosen > 0 ? states[chosen - 1] : states[0];
-  const kinds = states[chosen].map(section => kindOf(section[0]));
-  const gone = before.filter(section => !kinds.includes(kindOf(section[0]))).map(section => [section[0], []]);
+  const sections = states[chosen].slice();
+  const place = section => sections.findIndex(other => kindOf(other[0]) === kindOf(section[0]));
+  before.forEach((section, i) => {
+    // A section that is gone keeps its place: in front of the next that is not.
+    const next = before.slice(i).find(other => place(other) >= 0);
+    if (next !== section) sections.splice(next ? place(next) : sections.length, 0, [section[0], []]);
+  });
   state.replaceChildren();
-  for (const [title, now] of states[chosen].concat(gone)) {
+  for (const [title, now] of sections) {
     const same = before.find(section => kindOf(section[0]) === kindOf(title));
     const was = same ? same[1] : [];
     const fresh = minus(now, was);
@@ -171,10 +176,10 @@ def heading(run, name):
     size = f"memory {run.script.memory} bytes, {count} call{'s' * (count != 1)}"
     lines.append(f'<p>{html.escape(name)}: {size}. <span id="hint"></span></p>')
     for line in run.summary:
-        said = re.sub(r"at call ([0-9]+)$", r'at <a href="#call-\1">call \1</a>', html.escape(line))
+        said = re.sub(r"call ([0-9]+)$", r'<a href="#call-\1">call \1</a>', html.escape(line))
         lines.append(f'<p class="wrong">{said}</p>')
-    if run.compared and not run.summary:
-        lines.append(f"<p>{html.escape(agreement(run))}</p>")
+    if run.agreement:
+        lines.append(f"<p>{html.escape(run.agreement)}</p>")
     return "\n".join(lines)
 
 

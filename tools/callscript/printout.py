@@ -97,7 +97,8 @@ class Printout:
 
 
 def read(source, script):
-    """The printout in a text. Every text is one: a line that answers no call, or not in its turn, is a stray one."""
+    """The printout in a text. Every text is one: a line that answers no call in its turn is a stray one, unless it is
+    empty."""
     printout = Printout({}, [])
     lines = source.removeprefix("\ufeff").removesuffix("\n").split("\n") if source else []
     last = -1
@@ -110,7 +111,7 @@ def read(source, script):
         elif last < number < len(script.calls) and blank:
             printout.answers[number] = read_answer(script.calls[number].kind.name, rest)
             last = number
-        else:
+        elif line.strip():
             printout.stray.append((at, line))
     return printout
 

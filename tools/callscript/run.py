@@ -54,8 +54,15 @@ class Run:
             lines.append(f"{some(self.doubtful, 'answer')} not as expected, the first at call {self.doubtful[0]}")
         if self.differing:
             count = f"{len(self.differing)} of {len(self.steps)} calls"
-            lines.append(f"the card differs at {count}; its first fault is at call {self.differing[0]}")
+            lines.append(f"the card differs at {count}, the first is call {self.differing[0]}")
         return lines
+
+    @property
+    def agreement(self):
+        """What is said of a card that answers every call as the printout does; else nothing."""
+        if not self.compared or self.differing:
+            return ""
+        return f"the card answers all {len(self.steps)} calls as the printout does"
 
 
 def run_of(script, printout, card=None):
@@ -102,7 +109,7 @@ def notes_on(book, call, answer):
     if expected == answer.text:
         return []
     right = say(read_answer(call.kind.name, expected))
-    return [f"after the calls and answers before it, document 01 gives: {right}"]
+    return [f"expected after the answers before it: {right}"]
 
 
 def strays(whose, printout):

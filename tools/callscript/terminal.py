@@ -51,16 +51,11 @@ def show(run, with_state, colour):
         if with_state:
             yield from (margin + "    " + paint("state", line) for line in state_lines(step.after))
     yield from (paint("wrong", "! " + line) for line in run.summary)
-    if run.compared and not run.summary:
-        yield agreement(run)
+    if run.agreement:
+        yield run.agreement
 
 
 def state_lines(sections):
     for title, rows in sections:
         yield title
         yield from (f"  {row.label}  {row.words}" for row in rows)
-
-
-def agreement(run):
-    """What is said of a card that answers as it should."""
-    return f"the card answers all {len(run.steps)} calls as the printout does"
