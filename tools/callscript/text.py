@@ -136,7 +136,8 @@ class Reader:
         before = len(self.mistakes)
         values = self.read_fields(kind, words)
         if len(self.mistakes) == before:
-            self.script.comments.update({len(self.script.calls): comment} if comment else {})
+            if comment:
+                self.script.comments[len(self.script.calls)] = comment
             self.add(Call(kind, {field.name: values.get(field.name, field.default) for field in kind.named}), column)
 
     def read_fields(self, kind, words):
