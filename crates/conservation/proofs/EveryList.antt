@@ -26,7 +26,7 @@ use Rattle.portals.specs.Calls.{Call, stateAfter, answerTo}
 use Rattle.portals.specs.Calls as calls
 use Rattle.portals.specs.declared.answers.NewDone.{NewDone}
 use Rattle.portals.proofs.GuardLaws.{guard-cases}
-use Rattle.portals.proofs.CallLaws.{call-laws}
+use Rattle.claims.proofs.CallLaws.{call-laws}
 use Rattle.conservation.specs.Steps.{called, eventsRead}
 use Rattle.conservation.specs.Ledger.{Ledger, empty, hear, messageAt, headerAt}
 use Rattle.conservation.specs.Runs.{Line, line, lineElsewhere, Stepped, Ran}

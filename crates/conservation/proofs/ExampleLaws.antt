@@ -23,7 +23,7 @@ use Rattle.portals.specs.Making as making
 use Rattle.portals.specs.Request.{decided}
 use Rattle.portals.specs.Request as request
 use Rattle.portals.specs.EarlyMessages as early
-use Rattle.portals.specs.BenchCases.{requestOf}
+use Rattle.claims.specs.BenchCases.{requestOf}
 use Rattle.portals.specs.Promises.{Met, NewMet, AppendMet, PutMet}
 use Rattle.portals.specs.Calls.{append, put}
 use Rattle.portals.specs.declared.answers.NewDone.{NewDone}

@@ -14,7 +14,7 @@ use Rattle.state.proofs.ListLaws.{cond-cases, neither}
 use Rattle.portals.specs.Answers.{Answer, refused}
 use Rattle.portals.specs.Calls.{Call, stateAfter, answerTo}
 use Rattle.portals.specs.Calls as calls
-use Rattle.portals.proofs.CallLaws.{call-laws}
+use Rattle.claims.proofs.CallLaws.{call-laws}
 use Rattle.conservation.specs.Steps.{called, count, eventIn, eventsRead, saysLinked, saysDropped, saysPerm, saysOp}
 use Rattle.conservation.specs.Ledger.{countersAfter, Ledger, Effect, Fates, nothing, callEffect, linkedAfter, arrivalsOf, waitingAfter, handOuts, issuedBy, addAll, effectHeard}
 use Rattle.conservation.specs.Runs.{line}

@@ -8,7 +8,7 @@ use lib.ListN.{replicate, set}
 use Rattle.matching.specs.Entry.{ANY}
 use Rattle.matching.specs.declared.layout.Entry.{Entry}
 use Rattle.portals.specs.Answers.{LINKED, TAKEN, OVERFLOW}
-use Rattle.portals.specs.BenchCases.{entryOf, entryWith, requestOf}
+use Rattle.claims.specs.BenchCases.{entryOf, entryWith, requestOf}
 use Rattle.portals.specs.Promises.{NewMet}
 use Rattle.portals.specs.Calls.{append, put}
 use Rattle.portals.specs.declared.answers.NewDone.{NewDone}

@@ -7,7 +7,7 @@ use Rattle.matching.specs.Entry.{ANY}
 use Rattle.matching.specs.declared.layout.Entry.{Entry}
 use Rattle.state.specs.declared.layout.Target.{Target}
 use Rattle.portals.specs.Answers.{Answer, REFUSED, LINKED, TAKEN, DONE, SEARCHED, PRIORITY, OVERFLOW, DROPPED, COUNTER, REGISTER}
-use Rattle.portals.specs.BenchCases.{entryOf, requestOf}
+use Rattle.claims.specs.BenchCases.{entryOf, requestOf}
 use Rattle.portals.specs.Calls.{Call, append, unlink, search, put, readCounter, readRegister}
 use Rattle.conservation.specs.Runs.{Line, line, lineElsewhere}
 use Rattle.conservation.specs.Conserved.{All, Conserved}

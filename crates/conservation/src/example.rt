@@ -7,7 +7,7 @@ use portals::put_get;
 use state::layout::Settings;
 use state::layout::Target;
 ghost use mathlib.Core.Path.{_≡_};
-ghost use Rattle.portals.specs.BenchCases.{requestOf};
+ghost use Rattle.claims.specs.BenchCases.{requestOf};
 ghost use Rattle.conservation.specs.Example.{overflowEntry, takingEntry, Example};
 
 // What the calls leave.

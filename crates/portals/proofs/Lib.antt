@@ -1,12 +1,11 @@
 pub mod GuardLaws
 pub mod RequestCalls
 pub mod EarlyKept
-pub mod CallLaws
+pub mod PartsKept
 pub mod AdmitLaws
 pub mod MetLaws
 pub mod PartCalls
 pub mod PollLaws
 pub mod EarlyMet
-pub mod CasesHold
 pub mod RequestMet
 pub mod Promised

@@ -41,7 +41,7 @@ use Rattle.portals.specs.declared.admission.Admission.{Admission}
 use Rattle.portals.specs.declared.admission.Admission.the-variants as Admission
 use Rattle.portals.proofs.GuardLaws.{guard-cases, unless-map}
 use Rattle.portals.proofs.EarlyKept.{unlink-sound}
-use Rattle.portals.proofs.CallLaws.{new-sound, set-sound, increment-sound, read-event-sound, oldest-answers}
+use Rattle.portals.proofs.PartsKept.{new-sound, set-sound, increment-sound, read-event-sound, oldest-answers}
 use Rattle.portals.proofs.AdmitLaws.{admits-for}
 use Rattle.portals.proofs.MetLaws.{seen-sound, sound-joined, fits-counts, Ending, met, read-met}
 

@@ -9,4 +9,3 @@ pub mod Request
 pub mod EarlyMessages
 pub mod Promises
 pub mod Calls
-pub mod BenchCases

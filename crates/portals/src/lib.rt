@@ -2,10 +2,8 @@
 pub mod admission;
 pub mod answers;
 pub mod append;
-pub mod bench;
 pub mod counters;
 pub mod events;
-pub mod laws;
 pub mod making;
 pub mod poll;
 pub mod put_get;

@@ -1,7 +1,0 @@
-// Document 01, "Bench cases (these are proved)".
-ghost use Rattle.portals.specs.BenchCases.{AllHold, table};
-
-// The ten cases hold of the rules: the claim is all that it gives.
-pub fn bench_cases()
-    ensures { λ r. ⌜ AllHold table ⌝ }
-{}
