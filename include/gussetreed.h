@@ -377,11 +377,10 @@ gussetreed_reply gussetreed_read_counter(const gussetreed_target *t, uint64_t k)
 /* Reads a register, 0 drop, 1 permission, 2 operation: REGISTER. */
 gussetreed_reply gussetreed_read_register(const gussetreed_target *t, uint64_t k);
 
-/* Tests a counter: READY where its success is at least the test, and also when its failure is not 0; else NOT_READY. */
+/* Tests a counter: READY or NOT_READY. */
 gussetreed_reply gussetreed_ready(const gussetreed_target *t, gussetreed_counter_test x);
 
-/* Polls a list of counters, each with the test at its place in another list: REACHED with the lowest place that is ready in the sense
- * of gussetreed_ready, so also when its failure is not 0; else NONE_REACHED. */
+/* Polls a list of counters, each with the test at its place in another list: REACHED or NONE_REACHED. */
 gussetreed_reply gussetreed_poll(
     const gussetreed_target *t,
     const uint64_t *ks, size_t ks_length,

@@ -634,21 +634,17 @@ pub fn read_register<const SOUND: bool>(t: &Target, k: u64) -> Reply {
     reply(REGISTER, 0, value, 0)
 }
 
-/// A counter is ready when its success is at least the test, or its failure not 0.
-fn is_ready(c: &Counter, test: u64) -> bool {
-    c.success >= test || c.failure != 0
-}
-
-/// Whether a counter is ready.
+/// Whether a counter's success is at least the test, or its failure not 0.
 pub fn ready<const SOUND: bool>(t: &Target, x: CounterTest) -> Reply {
     if SOUND && !sound(t) {
         return refused(BAD_STATE);
     }
     let Some(k) = slot(x.counter) else { return refused(ARG_INVALID) };
-    answer(if is_ready(&t.counters.slots[k], x.test) { READY } else { NOT_READY })
+    let c = &t.counters.slots[k];
+    answer(if c.success >= x.test || c.failure != 0 { READY } else { NOT_READY })
 }
 
-/// The lowest place whose counter is ready for its test, or NONE_REACHED.
+/// The lowest place whose counter's success has reached its test, or NONE_REACHED. Failures play no part.
 pub fn poll<const SOUND: bool>(t: &Target, ks: &[u64], tests: &[u64]) -> Reply {
     if SOUND && !sound(t) {
         return refused(BAD_STATE);
@@ -656,7 +652,7 @@ pub fn poll<const SOUND: bool>(t: &Target, ks: &[u64], tests: &[u64]) -> Reply {
     if ks.len() != tests.len() || ks.iter().any(|&k| slot(k).is_none()) {
         return refused(ARG_INVALID);
     }
-    match ks.iter().zip(tests).position(|(&k, &test)| is_ready(&t.counters.slots[k as usize], test)) {
+    match ks.iter().zip(tests).position(|(&k, &test)| t.counters.slots[k as usize].success >= test) {
         Some(place) => reply(REACHED, 0, place as u64, 0),
         None => answer(NONE_REACHED),
     }

@@ -6,14 +6,13 @@ use crate::plain::*;
 use std::sync::atomic::{AtomicUsize, Ordering};
 
 /// The errors: their names and what they do.
-pub const PLANTS: [(&str, &str); 7] = [
+pub const PLANTS: [(&str, &str); 6] = [
     ("denied", "going on past an entry that denied the request"),
     ("truncate", "NO_TRUNCATE taken as a failure after the match"),
     ("requested", "the local offset moved by the requested length"),
     ("freed", "AUTO_FREE at unlinking with a message waiting"),
     ("kept", "a reply buffer cleared behind the accepted bytes (calls only)"),
     ("soundness", "a waiting header's region not tested (calls only)"),
-    ("failures", "a poll that looks at success only (calls only)"),
 ];
 const DENIED: usize = 0;
 const TRUNCATE: usize = 1;
@@ -21,10 +20,9 @@ const REQUESTED: usize = 2;
 const FREED: usize = 3;
 const KEPT: usize = 4;
 const SOUNDNESS: usize = 5;
-const FAILURES: usize = 6;
 
 /// No printout shows these.
-pub const CALLS_ONLY: [&str; 3] = ["kept", "soundness", "failures"];
+pub const CALLS_ONLY: [&str; 2] = ["kept", "soundness"];
 
 static CHOSEN: AtomicUsize = AtomicUsize::new(0);
 
@@ -225,12 +223,6 @@ impl Calls for Planted {
         tested_read(t, |t| Plain::ready(t, x))
     }
     fn poll(t: &Target, ks: &[u64], tests: &[u64]) -> Reply {
-        tested_read(t, |t| {
-            let mut t = *t;
-            if planted(FAILURES) {
-                t.counters.slots.iter_mut().for_each(|c| c.failure = 0);
-            }
-            Plain::poll(&t, ks, tests)
-        })
+        tested_read(t, |t| Plain::poll(t, ks, tests))
     }
 }

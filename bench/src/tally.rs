@@ -1,6 +1,6 @@
 //! What was reached: how often each call was made and each answer came.
 
-use crate::cases::{Answer, Call, NAMES};
+use crate::cases::{Answer, NAMES};
 use crate::layout::*;
 
 /// The answers in the order of their numbers; the first is REFUSED, which the refusals behind them stand for.
@@ -72,7 +72,6 @@ pub struct Tally {
     pub unsound: u64,
     pub differences: u64,
     limits: [u64; LIMITS.len()],
-    polls: [u64; POLLS.len()],
 }
 
 /// States at a limit, in which direct calls were made.
@@ -84,13 +83,6 @@ const LIMITS: [&str; 7] = [
     "events lost",
     "retired entries",
     "a ring that wraps",
-];
-
-/// Where the first counter with a failure stood in a poll's list. In the first two it makes the place ready that is answered.
-const POLLS: [&str; 3] = [
-    "where success reached no test",
-    "before the first place that success reached",
-    "at or behind the first place that success reached",
 ];
 
 fn at_limits(t: &Target) -> [bool; LIMITS.len()] {
@@ -142,19 +134,6 @@ impl Tally {
         }
     }
 
-    /// A direct call with its answer, and the target it was made on: of a poll that was not refused, where a failure stood.
-    pub fn failures(&mut self, t: &Target, call: &Call, a: &Answer) {
-        let (Call::Poll { ks, tests }, false) = (call, a.is_refusal()) else { return };
-        let counters: Vec<_> = ks.iter().map(|&k| t.counters.slots[k as usize]).collect();
-        let Some(failed) = counters.iter().position(|c| c.failure != 0) else { return };
-        let reached = counters.iter().zip(tests).position(|(c, test)| c.success >= *test);
-        self.polls[match reached {
-            None => 0,
-            Some(place) if failed < place => 1,
-            Some(_) => 2,
-        }] += 1;
-    }
-
     /// On which states direct calls were made.
     pub fn states(&self) -> String {
         let limits = counted(&self.limits, &LIMITS, true);
@@ -204,26 +183,16 @@ impl Tally {
         let rows: String = calls.clone().map(|call| self.row(call)).collect();
         let mut missing: Vec<String> = calls.flat_map(|call| self.missing(call, scripts)).collect();
         missing.extend(self.missing_events());
-        if !scripts {
-            missing.extend(POLLS.iter().zip(self.polls).filter(|(_, n)| *n == 0).map(|(what, _)| format!("a poll with a failure {what}")));
-        }
         let end = match missing.len() {
-            0 if scripts => "every answer of every call came, and every kind of event".to_string(),
-            0 => "every answer of every call came, every kind of event, and a failure in each place of a poll".to_string(),
+            0 => "every answer of every call came, and every kind of event".to_string(),
             _ => format!("did not come: {}", missing.join(", ")),
         };
-        let polls = if scripts { String::new() } else { self.polls_row() };
-        format!("{rows}{polls}{}  {end}\n", self.events_row())
+        format!("{rows}{}  {end}\n", self.events_row())
     }
 
     fn row(&self, call: usize) -> String {
         let row = &self.counts[call];
         format!("  {:<14}{:>11}   {}\n", NAMES[call], row.iter().sum::<u64>(), counted(row, &OUTCOMES, false))
-    }
-
-    fn polls_row(&self) -> String {
-        let all: u64 = self.polls.iter().sum();
-        format!("  polls answered, with a failure in the list: {all}; the first one {}\n", counted(&self.polls, &POLLS, true))
     }
 
     fn events_row(&self) -> String {

@@ -301,7 +301,6 @@ fn sequence<B: Calls>(seed: u64, n: u64, count: u64, tally: &mut Tally) -> Optio
         }
         let (_, b, found) = pair.step::<Proved, B>(&step);
         tally.call(step.call.number(), &b);
-        tally.failures(pair.plain.target(), &step.call, &b);
         tally.damaged += u64::from(!step.damage.is_empty());
         tally.unsound += u64::from(!step.damage.is_empty() && b.is_refusal() && b.code() == BAD_STATE);
         case.steps.push(step);

@@ -253,7 +253,7 @@ impl Work for Ready {
     }
 }
 
-/// Over all counters; none is ready for its test.
+/// Over all counters; none has reached its test.
 #[derive(Clone, Copy)]
 struct Poll;
 

@@ -157,10 +157,6 @@ impl Chooser {
         let (mut ks, mut tests): (Vec<_>, Vec<_>) = (0..n).map(|_| self.test(t)).map(|x| (x.counter, x.test)).unzip();
         if self.r.one_in(3) {
             tests.fill(u64::MAX);
-            // and one place is ready all the same, which may be far down the list
-            if n != 0 && self.r.one_in(2) {
-                tests[self.r.index(n)] = 0;
-            }
         }
         match self.r.below(30) {
             0 => drop(ks.pop()),

@@ -18,7 +18,7 @@ use Rattle.portals.specs.Refusals.{Condition, good_arguments, unless_refused}
 use Rattle.portals.specs.Answers.{Answer, DONE, COUNTER, REGISTER, READY, NOT_READY, refused}
 use Rattle.portals.specs.Outcome.{Outcome, refusal, guarded, guarded_read}
 use Rattle.portals.specs.EventRead.{oldest_of, read_event}
-use Rattle.portals.specs.CounterCalls.{counter_tests, counter_done, is_ready, bad_poll_argument, ready_from, reached_answer, bad_register_argument, set_counter, increment, read_counter, read_register, ready, poll}
+use Rattle.portals.specs.CounterCalls.{counter_tests, counter_done, is_ready, bad_poll_argument, reached_from, reached_answer, bad_register_argument, set_counter, increment, read_counter, read_register, ready, poll}
 use Rattle.portals.specs.Calls.{Call}
 use Rattle.portals.specs.Calls as calls
 use Rattle.portals.proofs.GuardLaws.{guard-cases, unless-map}
@@ -60,7 +60,7 @@ module _ (b : Ledger) (v : View) (m : List ℕ) (r : Related b v m) where
   pub poll-kept : (ks tests : List ℕ) → Kept b m (calls.poll ks tests) (poll v ks tests) v m
   unfolding poll
   poll-kept ks tests =
-      let place = ready_from v.counters 0 ks tests in
+      let place = reached_from v.counters 0 ks tests in
       read_kept (calls.poll ks tests) (good_arguments (bad_poll_argument ks tests) ∷ []) (reached_answer place) (reached place) refl
     where
       reached : (o : Option ℕ) → Plain (reached_answer o)
@@ -137,7 +137,7 @@ module _ (b : Ledger) (v : View) (m : List ℕ) (r : Related b v m) where
   pub poll-answered : (ks tests : List ℕ) → Answered (calls.poll ks tests) (poll v ks tests)
   unfolding poll
   poll-answered ks tests =
-      ap (λ (cs : List Counter). unless_refused refused (good_arguments (bad_poll_argument ks tests) ∷ []) (reached_answer (ready_from cs 0 ks tests))) r.counters
+      ap (λ (cs : List Counter). unless_refused refused (good_arguments (bad_poll_argument ks tests) ∷ []) (reached_answer (reached_from cs 0 ks tests))) r.counters
 
   pub read-register-answered : (k : ℕ) → Answered (calls.read_register k) (read_register v k)
   unfolding read_register

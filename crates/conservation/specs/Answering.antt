@@ -26,7 +26,7 @@ use Rattle.early.specs.Walk.{uses_once}
 use Rattle.portals.specs.Refusals.{Condition, good_arguments, unless_refused}
 use Rattle.portals.specs.Answers.{Answer, LINKED, TAKEN, DONE, SEARCHED, PRIORITY, OVERFLOW, DROPPED, PERM, OP, COUNTER, REGISTER, READY, NOT_READY, refused}
 use Rattle.portals.specs.EventRead.{oldest_of}
-use Rattle.portals.specs.CounterCalls.{counter_tests, is_ready, bad_poll_argument, ready_from, reached_answer, bad_register_argument}
+use Rattle.portals.specs.CounterCalls.{counter_tests, is_ready, bad_poll_argument, reached_from, reached_answer, bad_register_argument}
 use Rattle.portals.specs.Calls.{Call, append, unlink, search, put, get, read_event, set_counter, increment, read_counter, read_register, ready, poll}
 use Rattle.conservation.specs.Steps.{Step, called, elsewhere, wrote, count, events_read, says_linked, says_dropped, says_perm, says_op}
 use Rattle.conservation.specs.Ledger.{Ledger, chosen, search_walk, append_walk, still_queued, kept_without, headers_at}
@@ -123,7 +123,7 @@ expected b (increment x) = DONE
 expected b (read_counter k) = COUNTER (counter_at b.counters k).success (counter_at b.counters k).failure
 expected b (read_register k) = REGISTER (register_of b.heard k)
 expected b (ready x) = cond (is_ready (counter_at b.counters x.counter) x.test) READY NOT_READY
-expected b (poll ks tests) = reached_answer (ready_from b.counters 0 ks tests)
+expected b (poll ks tests) = reached_answer (reached_from b.counters 0 ks tests)
 
 -- the answer of a step is the ledger's. BAD_MEMORY: "put or get: memory length differs from the state's"; the step `elsewhere` is only of a
 -- memory of another length

@@ -156,7 +156,7 @@ pub extern "C" fn gussetreed_read_register(t: &Target, k: u64) -> Reply
     told::read_register(*t, a, k)
 }
 
-// Tests a counter: READY where its success is at least the test, and also when its failure is not 0; else NOT_READY.
+// Tests a counter: READY or NOT_READY.
 #[unsafe(no_mangle)]
 pub extern "C" fn gussetreed_ready(t: &Target, x: CounterTest) -> Reply
     ensures { ReadyTold t.now x result }
@@ -166,8 +166,7 @@ pub extern "C" fn gussetreed_ready(t: &Target, x: CounterTest) -> Reply
     told::ready(*t, a, x)
 }
 
-// Polls a list of counters, each with the test at its place in another list: REACHED with the lowest place that is ready in the sense
-// of gussetreed_ready, so also when its failure is not 0; else NONE_REACHED.
+// Polls a list of counters, each with the test at its place in another list: REACHED or NONE_REACHED.
 #[unsafe(no_mangle)]
 pub extern "C" fn gussetreed_poll(t: &Target, ks: &[u64], tests: &[u64]) -> Reply
     ensures { PollTold t.now ks.now tests.now result }

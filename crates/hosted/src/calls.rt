@@ -4,7 +4,7 @@ use host::by_value;
 use matching::layout::{Entry, Request};
 use portals::{append, counters, making, poll, put_get};
 use state::empty;
-use state::layout::{CounterChange, CounterTest, Settings, Target};
+use state::layout::{CounterTest, Settings, Target};
 
 // The target whose copies are lent, and the one that is handed over by value.
 #[derive(Clone, Copy)]
@@ -57,18 +57,6 @@ pub fn put(
     let y = b.answer;
     said::say_put(b"lent  ", k, x);
     said::say_put(b"value ", k, y);
-    let lent = a.target;
-    let value = b.target;
-    Pair { lent, value }
-}
-
-pub fn set_counter(p: Pair, k: usize, x: CounterChange) -> Pair {
-    let a = by_value::set_counter(p.lent, x);
-    let b = counters::set_counter(p.value, x);
-    let y = a.answer;
-    let z = b.answer;
-    said::say_plain(b"lent  ", k, y);
-    said::say_plain(b"value ", k, z);
     let lent = a.target;
     let value = b.target;
     Pair { lent, value }

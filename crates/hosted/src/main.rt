@@ -8,7 +8,7 @@ pub mod said;
 
 use crate::calls::Pair;
 use matching::layout::{Entry, Request};
-use state::layout::{CounterChange, CounterTest};
+use state::layout::CounterTest;
 
 // An entry of the priority list at portal 0, for the puts of any initiator with match bits 5, which counts them in counter 3.
 fn entry() -> Entry {
@@ -93,45 +93,10 @@ fn polled(p: Pair) {
     );
 }
 
-// Counter 2 has failures, and is ready for any test. It is polled before a place that success has reached, behind one, and where
-// success has reached none.
-fn failed(p: Pair) -> Pair {
-    let p = calls::set_counter(
-        p,
-        13,
-        CounterChange {
-            counter: 2,
-            success: 0,
-            failure: 2,
-        },
-    );
-    calls::ready(
-        p,
-        14,
-        CounterTest {
-            counter: 2,
-            test: 9,
-        },
-    );
-    calls::poll(p, 15, &[4, 2, 3], &[1, 9, 1]);
-    calls::poll(p, 16, &[4, 3, 2], &[1, 1, 9]);
-    calls::poll(p, 17, &[3, 4, 2], &[2, 1, 9]);
-    p
-}
-
-// A bad counter behind a place that is ready, more tests than counters, no counters, and a test that every counter has reached.
-fn edge_cases(p: Pair) {
-    calls::poll(p, 18, &[2, 16], &[1, 1]);
-    calls::poll(p, 19, &[2], &[1, 1]);
-    calls::poll(p, 20, &[], &[]);
-    calls::poll(p, 21, &[4, 5], &[1, 0]);
-}
-
 // The list. The two targets have a memory each.
 fn run(lent_memory: &mut [u8], value_memory: &mut [u8]) {
     let p = counted(made(refused()), lent_memory, value_memory);
     polled(p);
-    edge_cases(failed(p));
 }
 
 fn main() {

@@ -28,14 +28,10 @@ pub fn say_append(way: &[u8], k: usize, a: AppendAnswer) {
     say(way, &out, n)
 }
 
-pub fn say_plain(way: &[u8], k: usize, a: PlainAnswer) {
-    let mut out = [0u8; 400];
-    let n = said::plain_said(&mut out, k, a);
-    say(way, &out, n)
-}
-
 fn say_refused(way: &[u8], k: usize, refusal: Refusal) {
-    say_plain(way, k, PlainAnswer::Refused(refusal))
+    let mut out = [0u8; 400];
+    let n = said::plain_said(&mut out, k, PlainAnswer::Refused(refusal));
+    say(way, &out, n)
 }
 
 // A word, and numbers behind it.

@@ -33,7 +33,7 @@ use Rattle.portals.specs.Answers.{Answer, MADE, DONE, COUNTER, REGISTER, READY, 
 use Rattle.portals.specs.Outcome.{Outcome, guarded}
 use Rattle.portals.specs.Making.{bad_setting, not_made, new}
 use Rattle.portals.specs.EventRead.{oldest_of, event_taken, read_event}
-use Rattle.portals.specs.CounterCalls.{bad_counter_argument, counter_tests, counter_done, set_counter, increment, read_counter, bad_register_argument, read_register, is_ready, ready, bad_poll_argument, ready_from, reached_answer, poll}
+use Rattle.portals.specs.CounterCalls.{bad_counter_argument, counter_tests, counter_done, set_counter, increment, read_counter, bad_register_argument, read_register, is_ready, ready, bad_poll_argument, reached_from, reached_answer, poll}
 use Rattle.portals.specs.EarlyMessages.{unlink_tests, unlinked, unlink, EntriesUnlinked}
 use Rattle.portals.specs.Promises.{Met, ReadMet, NewMet}
 use Rattle.portals.specs.declared.answers.NewDone.{NewDone}
@@ -149,11 +149,11 @@ module _ (t : Target) (answer : Answer) (found : BadArgument) (a : Admission) (a
 
   pub poll-met : (ks tests : List ℕ)
       → found ≡ bad_poll_argument ks tests
-      → answer ≡ by_admission refused (reached_answer (ready_from t.counters.slots 0 ks tests)) a
+      → answer ≡ by_admission refused (reached_answer (reached_from t.counters.slots 0 ks tests)) a
       → ReadMet (λ v. poll v ks tests) t answer
   unfolding poll
   poll-met ks tests is-bad e =
-      read-met (λ v. poll v ks tests) (λ v. reached_answer (ready_from v.counters 0 ks tests))
+      read-met (λ v. poll v ks tests) (λ v. reached_answer (reached_from v.counters 0 ks tests))
       (λ v. good_arguments (bad_poll_argument ks tests) ∷ []) (λ v. refl) t answer a
       (admits-for found (bad_poll_argument ks tests) t a is-bad admits)
       e

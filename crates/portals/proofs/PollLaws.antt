@@ -1,11 +1,11 @@
 -- The loops of a poll: what the definition says of the whole lists is what it says of the rest from place i on.
 use mathlib.Core.Path.{◌≡◌}
-use mathlib.Core.Bool.{Bool, true, false}
+use mathlib.Core.Bool.{true, false}
 use mathlib.Core.List.{List}
 use mathlib.Core.Option.{none, some}
 use Prim.Native.Nat.{ℕ, ◌+◌, ◌≤◌, ◌<◌}
 use native.Mathlib.Numerals.{add-one}
-use borrow.Author.Tests.{lt-ltb, le-ltb}
+use borrow.Author.Tests.{lt-ltb, le-ltb, le-leb, lt-leb}
 use lib.ListN.{length, drop, get_or, drop_of_length-le}
 use lib.Seq.{drop-cons}
 use Rattle.matching.specs.Entry.{is_counter}
@@ -13,7 +13,7 @@ use Rattle.state.specs.Counters.{counter_at}
 use Rattle.state.specs.Lists.{every}
 use Rattle.state.specs.Sizes.{COUNTERS}
 use Rattle.state.specs.declared.layout.Counter.{Counter}
-use Rattle.portals.specs.CounterCalls.{is_ready, ready_from}
+use Rattle.portals.specs.CounterCalls.{reached_from}
 
 -- ## Every counter of the list is one
 
@@ -30,22 +30,21 @@ module _ (ks : List ℕ) (i : ℕ) where
   pub counters-end : length ks ≤ i → every is_counter (drop i ks) ≡ true
   counters-end h = rw (drop_of_length-le ks h)
 
--- ## The lowest place that is ready
+-- ## The lowest place that has reached its test
 
--- c is the counter named at place i, and found says whether it is ready for the test there
 module _ (counters : List Counter) (ks tests : List ℕ) (i : ℕ) where
   -- it is i
-  pub ready-here : {c : Counter} {found : Bool} → i < length ks → i < length tests
-      → c ≡ counter_at counters (get_or ks i 0) → found ≡ is_ready c (get_or tests i 0) → found ≡ true
-      → ready_from counters i (drop i ks) (drop i tests) ≡ some i
-  ready-here h k same is e = rw (drop-cons ks i 0, drop-cons tests i 0, ← same, ← is, e)
+  pub reached-here : i < length ks → i < length tests
+      → get_or tests i 0 ≤ (counter_at counters (get_or ks i 0)).success
+      → reached_from counters i (drop i ks) (drop i tests) ≡ some i
+  reached-here h k e = rw (drop-cons ks i 0, drop-cons tests i 0, le-leb _ _ e)
 
   -- it is among those after i
-  pub ready-later : {c : Counter} {found : Bool} → i < length ks → i < length tests
-      → c ≡ counter_at counters (get_or ks i 0) → found ≡ is_ready c (get_or tests i 0) → found ≡ false
-      → ready_from counters i (drop i ks) (drop i tests) ≡ ready_from counters (i + 1) (drop (i + 1) ks) (drop (i + 1) tests)
-  ready-later h k same is e = rw (add-one, drop-cons ks i 0, drop-cons tests i 0, ← same, ← is, e)
+  pub reached-later : i < length ks → i < length tests
+      → (counter_at counters (get_or ks i 0)).success < get_or tests i 0
+      → reached_from counters i (drop i ks) (drop i tests) ≡ reached_from counters (i + 1) (drop (i + 1) ks) (drop (i + 1) tests)
+  reached-later h k e = rw (add-one, drop-cons ks i 0, drop-cons tests i 0, lt-leb _ _ e)
 
   -- no place is left
-  pub ready-none : length ks ≤ i → ready_from counters i (drop i ks) (drop i tests) ≡ none
-  ready-none h = rw (drop_of_length-le ks h)
+  pub reached-none : length ks ≤ i → reached_from counters i (drop i ks) (drop i tests) ≡ none
+  reached-none h = rw (drop_of_length-le ks h)

@@ -45,9 +45,13 @@ unfoldable pub read_counter : View → ℕ → Answer
 read_counter v k =
     guarded_read (counter_tests k) (COUNTER (counter_at v.counters k).success (counter_at v.counters k).failure)
 
+-- "success at least the test"
+abbrev pub has_reached : Counter → ℕ → Bool
+has_reached c test = leb test c.success
+
 -- "Ready: success at least the test, or failure not 0."
 abbrev pub is_ready : Counter → ℕ → Bool
-is_ready c test = leb test c.success || not (eqb c.failure 0)
+is_ready c test = has_reached c test || not (eqb c.failure 0)
 
 unfoldable pub ready : View → CounterTest → Answer
 ready v x =
@@ -55,7 +59,7 @@ ready v x =
 
 -- ## Poll
 
--- "Poll, over a list of counters and tests of equal length (else ARG_INVALID)": every counter is tested, whatever is ready
+-- "Poll, over a list of counters and tests of equal length (else ARG_INVALID)": every counter is tested, whatever is reached
 -- before it, and before the lengths: decisions 5 and 32
 abbrev pub bad_poll_argument : List ℕ → List ℕ → BadArgument
 bad_poll_argument ks tests =
@@ -64,12 +68,12 @@ bad_poll_argument ks tests =
     ∷ record { passed = eqb (length ks) (length tests); argument = BadArgument.ListLength }
     ∷ [])
 
--- "the lowest place that is ready in the sense of the ready question" (document 02, (iii)): decision 81; the lists begin at place i
-abbrev pub ready_from : List Counter → ℕ → List ℕ → List ℕ → Option ℕ
-ready_from counters i [] tests = none
-ready_from counters i (k ∷ ks) [] = none
-ready_from counters i (k ∷ ks) (test ∷ tests) =
-    cond (is_ready (counter_at counters k) test) (some i) (ready_from counters (suc i) ks tests)
+-- "the lowest place whose success has reached its test": decision 5; the lists begin at place i
+abbrev pub reached_from : List Counter → ℕ → List ℕ → List ℕ → Option ℕ
+reached_from counters i [] tests = none
+reached_from counters i (k ∷ ks) [] = none
+reached_from counters i (k ∷ ks) (test ∷ tests) =
+    cond (has_reached (counter_at counters k) test) (some i) (reached_from counters (suc i) ks tests)
 
 -- "or NONE_REACHED"
 abbrev pub reached_answer : Option ℕ → Answer
@@ -79,7 +83,7 @@ reached_answer (some i) = REACHED i
 unfoldable pub poll : View → List ℕ → List ℕ → Answer
 poll v ks tests =
     guarded_read (good_arguments (bad_poll_argument ks tests) ∷ [])
-    (reached_answer (ready_from v.counters 0 ks tests))
+    (reached_answer (reached_from v.counters 0 ks tests))
 
 -- ## The registers
 

@@ -30,7 +30,7 @@ fn answer_counter(a: Admission, c: Counter) -> CounterAnswer
 }
 
 // "Ready: success at least the test, or failure not 0."
-pub fn is_ready(c: Counter, test: u64) -> bool
+fn is_ready(c: Counter, test: u64) -> bool
     ensures { result ≡ is_ready c test }
 {
     (test <= c.success) | (c.failure != 0)

@@ -5,13 +5,13 @@ ghost use Rattle.state.specs.Lists.{every};
 ghost use Rattle.portals.specs.Refusals.{good_arguments};
 ghost use Rattle.portals.specs.Admission.{by_admission, Admits};
 ghost use Rattle.portals.specs.Answers.{refused, poll_answer};
-ghost use Rattle.portals.specs.CounterCalls.{bad_poll_argument, ready_from, reached_answer};
+ghost use Rattle.portals.specs.CounterCalls.{bad_poll_argument, reached_from, reached_answer};
 ghost use Rattle.portals.specs.Promises.{PollMet};
 ghost use Rattle.portals.specs.declared.admission.Admission.TheVariants as Admission;
 
+use crate::admission;
 use crate::admission::Admission;
 use crate::answers::PollAnswer;
-use crate::{admission, counters as counter_calls};
 use matching::refusals::BadArgument;
 use state::layout::{Counters, Target};
 use state::{counters, sizes};
@@ -31,7 +31,7 @@ fn all_counters(ks: &[u64]) -> bool
     true
 }
 
-// The first bad argument of a poll, over lists "of equal length (else ARG_INVALID)". Every counter is tested, whatever is ready
+// The first bad argument of a poll, over lists "of equal length (else ARG_INVALID)". Every counter is tested, whatever is reached
 // before it.
 pub fn bad_poll_argument(ks: &[u64], tests: &[u64]) -> BadArgument
     ensures { result ≡ bad_poll_argument ks.now tests.now }
@@ -42,11 +42,10 @@ pub fn bad_poll_argument(ks: &[u64], tests: &[u64]) -> BadArgument
     admission::bad_unless(ks.len() == tests.len(), BadArgument::ListLength)
 }
 
-// "the lowest place that is ready in the sense of the ready question" (document 02, (iii)), "or NONE_REACHED": the search is left with
-// the place.
-fn lowest_ready(cs: Counters, ks: &[u64], tests: &[u64]) -> PollAnswer
+// "the lowest place whose success has reached its test, or NONE_REACHED": the search is left with the place.
+fn lowest_reached(cs: Counters, ks: &[u64], tests: &[u64]) -> PollAnswer
     requires { length ks.now ≡ length tests.now }
-    ensures { poll_answer result ≡ reached_answer (ready_from cs.slots 0 ks.now tests.now) }
+    ensures { poll_answer result ≡ reached_answer (reached_from cs.slots 0 ks.now tests.now) }
 {
     let mut i: usize = 0;
     loop {
@@ -54,7 +53,7 @@ fn lowest_ready(cs: Counters, ks: &[u64], tests: &[u64]) -> PollAnswer
             break PollAnswer::NoneReached;
         }
         let c = counters::counter_at(cs, ks[i]);
-        if counter_calls::is_ready(c, tests[i]) {
+        if tests[i] <= c.success {
             break PollAnswer::Reached(i);
         }
         i += 1;
@@ -64,10 +63,10 @@ fn lowest_ready(cs: Counters, ks: &[u64], tests: &[u64]) -> PollAnswer
 // What a poll answers.
 fn answer_poll(a: Admission, cs: Counters, ks: &[u64], tests: &[u64]) -> PollAnswer
     requires { (a ≡ Admission.Admitted) → length ks.now ≡ length tests.now }
-    ensures { poll_answer result ≡ by_admission refused (reached_answer (ready_from cs.slots 0 ks.now tests.now)) a }
+    ensures { poll_answer result ≡ by_admission refused (reached_answer (reached_from cs.slots 0 ks.now tests.now)) a }
 {
     match a {
-        Admission::Admitted => lowest_ready(cs, ks, tests),
+        Admission::Admitted => lowest_reached(cs, ks, tests),
         Admission::Refused(refusal) => PollAnswer::Refused(refusal),
     }
 }
@@ -81,7 +80,7 @@ pub fn counters_polled(t: Target, a: Admission, ks: &[u64], tests: &[u64]) -> Po
     answer_poll(a, cs, ks, tests)
 }
 
-// Polls a list of counters, each with the test at its place in another list: the lowest place that is ready, or none.
+// Polls a list of counters, each with the test at its place in another list.
 pub fn poll(t: Target, ks: &[u64], tests: &[u64]) -> PollAnswer
     ensures { PollMet t ks.now tests.now result }
 {

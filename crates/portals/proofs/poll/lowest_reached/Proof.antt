@@ -1,15 +1,15 @@
--- The loop looks at one place after the other; the lowest that is ready is found among all where it is found among the rest.
+-- The loop looks at one place after the other; the lowest that is reached is found among all where it is found among the rest.
 use mathlib.Core.Path.{◌≡◌, refl, ap, sym, ◌∙◌}
 use Prim.Native.Nat.{◌-◌}
 use borrow.Author.Rules.{rules}
 use lib.ListN.{length, drop}
-use Rattle.portals.specs.CounterCalls.{ready_from, reached_answer}
-use Rattle.portals.proofs.PollLaws.{ready-here, ready-later, ready-none}
-use Rattle.portals.proofs.poll.lowest_ready.Statement.{statement}
-use Rattle.portals.proofs.poll.lowest_ready.Tie as tie
+use Rattle.portals.specs.CounterCalls.{reached_from, reached_answer}
+use Rattle.portals.proofs.PollLaws.{reached-here, reached-later, reached-none}
+use Rattle.portals.proofs.poll.lowest_reached.Statement.{statement}
+use Rattle.portals.proofs.poll.lowest_reached.Tie as tie
 
 abbrev invariant-loop : tie.invariant-loop
-invariant-loop cs ks tests i₀ i = ready_from cs.slots 0 ks tests ≡ ready_from cs.slots i (drop i ks) (drop i tests)
+invariant-loop cs ks tests i₀ i = reached_from cs.slots 0 ks tests ≡ reached_from cs.slots i (drop i ks) (drop i tests)
 
 abbrev decreases-loop : tie.decreases-loop
 decreases-loop cs ks tests i₀ i = length ks - i
@@ -26,14 +26,11 @@ shared-slice-read-counter-at c = search rules
 counter-at-requires : tie.Need-counter-at-requires invariant-loop decreases-loop
 counter-at-requires c κs = search rules
 
-mul-is-ready : tie.Need-overflow-mul-is-ready invariant-loop decreases-loop
-mul-is-ready c = search rules
+mul-if2 : tie.Need-overflow-mul-if2 invariant-loop decreases-loop
+mul-if2 c = search rules
 
-shared-slice-read-is-ready : tie.Need-shared-slice-read-is-ready invariant-loop decreases-loop
-shared-slice-read-is-ready c = search rules
-
-is-ready-requires : tie.Need-is-ready-requires invariant-loop decreases-loop
-is-ready-requires c κs = search rules
+shared-slice-read-if2 : tie.Need-shared-slice-read-if2 invariant-loop decreases-loop
+shared-slice-read-if2 c = search rules
 
 add-i : tie.Need-overflow-add-i invariant-loop decreases-loop
 add-i c = search rules
@@ -43,34 +40,32 @@ loop-less c = search rules
 
 loop-again : tie.Need-loop-preserved invariant-loop decreases-loop
 loop-again c =
-    let r = c.before in
-    let k = r.before.before in
+    let k = c.before.before.before in
     let h = k.before.before.before in
     let a = h.before.before.before.args in
     h.loop.invariant
-    ∙ ready-later a.cs.slots a.ks.now a.tests.now h.loop.i (search rules) (search rules)
-    k.counter_at.ensures r.is-ready.ensures c.if2.false
+    ∙ reached-later a.cs.slots a.ks.now a.tests.now h.loop.i (search rules) (search rules)
+    (rw (← k.counter_at.ensures) c.if2.false)
 
 returns : tie.Need-returns invariant-loop decreases-loop
 returns c =
     let h = c.before in
     let a = h.before.before.before.args in
-    ap reached_answer (sym (h.loop.invariant ∙ ready-none a.cs.slots a.ks.now a.tests.now h.loop.i c.if1.true))
+    ap reached_answer (sym (h.loop.invariant ∙ reached-none a.cs.slots a.ks.now a.tests.now h.loop.i c.if1.true))
 
 returns-2 : tie.Need-returns-2 invariant-loop decreases-loop
 returns-2 c =
-    let r = c.before in
-    let k = r.before.before in
+    let k = c.before.before.before in
     let h = k.before.before.before in
     let a = h.before.before.before.args in
     ap reached_answer
     (sym
     (h.loop.invariant
-    ∙ ready-here a.cs.slots a.ks.now a.tests.now h.loop.i (search rules) (search rules)
-    k.counter_at.ensures r.is-ready.ensures c.if2.true))
+    ∙ reached-here a.cs.slots a.ks.now a.tests.now h.loop.i (search rules) (search rules)
+    (rw (← k.counter_at.ensures) c.if2.true)))
 
-pub lowest-ready-spec : {M : Type 1} → statement M
-lowest-ready-spec =
+pub lowest-reached-spec : {M : Type 1} → statement M
+lowest-reached-spec =
     tie.close
     (tie.spec
     invariant-loop
@@ -79,9 +74,8 @@ lowest-ready-spec =
     mul-counter-at
     shared-slice-read-counter-at
     counter-at-requires
-    mul-is-ready
-    shared-slice-read-is-ready
-    is-ready-requires
+    mul-if2
+    shared-slice-read-if2
     add-i
     loop-less
     loop-again
