@@ -27,7 +27,7 @@ use types.Kit.{Item, ‵, raw, ◌⊛◌, mean, ◌$◌, ◌∵◌, !, qed, move
 use types.Part.{Part}
 use denote.Shadow.{shadow}
 use denote.Laws.{Is}
-use denote.Array.{Array, each as eachOf, array_val}
+use denote.Array.{Array, each as each_of, array_val}
 use denote.Steps.{only}
 use denote.Struct.Field.{Field}
 use denote.Struct.Laws.{FLaws}
@@ -104,13 +104,13 @@ module _ (F : Field) (L : FLaws F) (n : ℕ) where
   pub spelled-length : (xs : List F.Value) → Whole xs → length (spelled xs) ≡ n
   spelled-length xs w = length-map (map F.into xs) L.val ∙ w.1.0.1
 
-  each_tells : (ys : List F.row.Denot) (us : List Val) → shadow (eachOf F.row.Denot F.row.own_val ys us) → us ≡ map L.val ys
+  each_tells : (ys : List F.row.Denot) (us : List Val) → shadow (each_of F.row.Denot F.row.own_val ys us) → us ≡ map L.val ys
   each_tells [] [] s = refl
   each_tells [] (u ∷ us) s = absurd s
   each_tells (y ∷ ys) [] s = absurd s
   each_tells (y ∷ ys) (u ∷ us) s = λ i. only (L.tells y (u ∷ []) s.0 i) ∷ each_tells ys us s.1 i
 
-  each_set : (ys : List F.row.Denot) (us : List Val) (i : ℕ) (y : F.row.Denot) (u : Val) → shadow (eachOf F.row.Denot F.row.own_val ys us) → Is F.row y (u ∷ []) → shadow (eachOf F.row.Denot F.row.own_val (set ys i y) (set us i u))
+  each_set : (ys : List F.row.Denot) (us : List Val) (i : ℕ) (y : F.row.Denot) (u : Val) → shadow (each_of F.row.Denot F.row.own_val ys us) → Is F.row y (u ∷ []) → shadow (each_of F.row.Denot F.row.own_val (set ys i y) (set us i u))
   each_set [] [] i y u s is = s
   each_set [] (v ∷ us) i y u s is = absurd s
   each_set (x ∷ ys) [] i y u s is = absurd s
@@ -118,7 +118,7 @@ module _ (F : Field) (L : FLaws F) (n : ℕ) where
   each_set (x ∷ ys) (v ∷ us) (suc i) y u s is = (s.0, each_set ys us i y u s.1 is)
 
   pub whole_set : (xs : List F.Value) (i : ℕ) (x : F.Value) → Whole xs → Is F.row (F.into x) (L.val (F.into x) ∷ []) → Whole (set xs i x)
-  whole_set xs i x w is = (set w.0 i (L.val (F.into x)), ((spells, len), subst (λ (ys : List F.row.Denot). shadow (eachOf F.row.Denot F.row.own_val ys (set w.0 i (L.val (F.into x))))) (sym (map-set F.into xs i x)) (each_set (map F.into xs) w.0 i (F.into x) (L.val (F.into x)) w.1.1 is)))
+  whole_set xs i x w is = (set w.0 i (L.val (F.into x)), ((spells, len), subst (λ (ys : List F.row.Denot). shadow (each_of F.row.Denot F.row.own_val ys (set w.0 i (L.val (F.into x))))) (sym (map-set F.into xs i x)) (each_set (map F.into xs) w.0 i (F.into x) (L.val (F.into x)) w.1.1 is)))
     where
       spells : ◌≡◌ {A = List Val} (array_val (spelled (set xs i x)) ∷ []) (array_val (set w.0 i (L.val (F.into x))) ∷ [])
       spells = ap (λ (us : List Val). array_val us ∷ []) (sym (ap (λ (us : List Val). set us i (L.val (F.into x))) (each_tells (map F.into xs) w.0 w.1.1) ∙ spelled-set xs i x))
@@ -143,7 +143,7 @@ module _ (F : Field) (L : FLaws F) (n : ℕ) where
   within i xs w lt = subst (λ (m : ℕ). i < m) (sym (spelled-length xs w)) lt
 
   -- what is known of element i, and its machine value; d is never read
-  each-is : (xs : List F.Value) (us : List Val) → shadow (eachOf F.row.Denot F.row.own_val (map F.into xs) us) → (i : ℕ) (d : F.Value) → i < length xs → Is F.row (F.into (get_or xs i d)) (L.val (F.into (get_or xs i d)) ∷ [])
+  each-is : (xs : List F.Value) (us : List Val) → shadow (each_of F.row.Denot F.row.own_val (map F.into xs) us) → (i : ℕ) (d : F.Value) → i < length xs → Is F.row (F.into (get_or xs i d)) (L.val (F.into (get_or xs i d)) ∷ [])
   each-is [] us s i d lt = absurd (not-suc-le-zero lt)
   each-is (x ∷ xs) [] s i d lt = absurd s
   each-is (x ∷ xs) (u ∷ us) s zero d lt = subst (λ (vs : List Val). Is F.row (F.into x) vs) (L.tells (F.into x) (u ∷ []) s.0) s.0

@@ -16,9 +16,7 @@ use Rattle.reader.specs.Calls.{call_kind, entry_at, request_at, length_at, chang
 use Rattle.reader.specs.Judging.{SCRIPT_MEMORY, known_kind, request_zeros, good_entry, good_put, good_get, good_body, well_formed}
 use Rattle.reader.specs.declared.contents.Line.{Line}
 use Rattle.reader.specs.declared.calls.CallKind.{CallKind}
-use Rattle.reader.specs.declared.calls.CallKind.TheVariants as CallKind
 use Rattle.reader.specs.declared.calls.Call.{Call}
-use Rattle.reader.specs.declared.calls.Call.TheVariants as Call
 
 -- ## The parts of a call
 

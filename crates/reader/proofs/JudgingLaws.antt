@@ -15,9 +15,7 @@ use Rattle.reader.specs.Judging.{FILE, SCRIPT_MEMORY, good_fields, bodies_start,
 use Rattle.reader.specs.declared.contents.Head.{Head}
 use Rattle.reader.specs.declared.contents.Line.{Line}
 use Rattle.reader.specs.declared.calls.CallKind.{CallKind}
-use Rattle.reader.specs.declared.calls.CallKind.TheVariants as CallKind
 use Rattle.reader.specs.declared.judging.Verdict.{Verdict}
-use Rattle.reader.specs.declared.judging.Verdict.TheVariants as Verdict
 use Rattle.reader.proofs.ContentsLaws.{line-beyond, place-next}
 use Rattle.reader.proofs.CallLaws.{body-inside, body-good, long-enough, get-short}
 

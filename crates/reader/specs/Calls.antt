@@ -6,9 +6,7 @@ use Rattle.state.specs.declared.layout.CounterChange.{CounterChange}
 use Rattle.reader.specs.Numbers.{number_at, byte_at}
 use Rattle.reader.specs.declared.contents.Line.{Line}
 use Rattle.reader.specs.declared.calls.CallKind.{CallKind}
-use Rattle.reader.specs.declared.calls.CallKind.TheVariants as CallKind
 use Rattle.reader.specs.declared.calls.Call.{Call}
-use Rattle.reader.specs.declared.calls.Call.TheVariants as Call
 
 -- "1 append and 9 search ..; 2 unlink ..; 3 put and 4 get ..; 5 read event ..; 6 read counter ..; 7 set, 8 increment ..; 10 read register".
 -- The decoding knows every number: one that is no kind stands for the last.

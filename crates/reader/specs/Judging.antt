@@ -6,9 +6,7 @@ use Rattle.reader.specs.Calls.{call_kind, request_at, length_at}
 use Rattle.reader.specs.declared.contents.Head.{Head}
 use Rattle.reader.specs.declared.contents.Line.{Line}
 use Rattle.reader.specs.declared.calls.CallKind.{CallKind}
-use Rattle.reader.specs.declared.calls.CallKind.TheVariants as CallKind
 use Rattle.reader.specs.declared.judging.Verdict.{Verdict}
-use Rattle.reader.specs.declared.judging.Verdict.TheVariants as Verdict
 
 -- "to the end of a file of at most 32,768 bytes"
 abbrev pub FILE : ℕ

@@ -30,12 +30,12 @@ abbrev pub hex_byte : ℕ → List ℕ
 hex_byte b = hex_digit (b / 16) ∷ hex_digit (b % 16) ∷ []
 
 -- the texts of all elements of a list, one after another
-unfoldable pub eachOf : (ℕ → List ℕ) → List ℕ → List ℕ
-eachOf text [] = []
-eachOf text (x ∷ xs) = text x ++ eachOf text xs
+unfoldable pub each_of : (ℕ → List ℕ) → List ℕ → List ℕ
+each_of text [] = []
+each_of text (x ∷ xs) = text x ++ each_of text xs
 
 abbrev pub fields_of : List ℕ → List ℕ
-fields_of ns = eachOf field_of ns
+fields_of ns = each_of field_of ns
 
 abbrev pub hex_of : List ℕ → List ℕ
-hex_of bs = eachOf hex_byte bs
+hex_of bs = each_of hex_byte bs

@@ -8,7 +8,7 @@ pub fn put_bytes(out: &mut [u8], at: usize, bytes: &[u8]) -> usize
     ensures { Wrote out.old at bytes.now (length bytes.now) out.new result }
 {
     let end = at + bytes.len();
-    bytes::copy(bytes, &mut out[at..end]);
+    out[at..end].copy_from_slice(bytes);
     end
 }
 
