@@ -9,9 +9,7 @@ use lib.ListN.{length}
 use Rattle.matching.specs.Entry.{is_counter}
 use Rattle.matching.specs.Refusals.{none_bad}
 use Rattle.matching.specs.declared.refusals.Refusal.{Refusal}
-use Rattle.matching.specs.declared.refusals.Refusal.TheVariants as Refusal
 use Rattle.matching.specs.declared.refusals.BadArgument.{BadArgument}
-use Rattle.matching.specs.declared.refusals.BadArgument.TheVariants as BadArgument
 use Rattle.state.specs.Lists.{every, any, first_from, place_or}
 use Rattle.state.specs.Sizes.{COUNTERS}
 use Rattle.state.specs.View.{View, entries_of, headers_of, view_of, is_linked_as}
@@ -25,7 +23,6 @@ use Rattle.portals.specs.Admission.{admission_if, admission, is_admitted, Admits
 use Rattle.portals.specs.CounterCalls.{bad_counter_argument, counter_tests, bad_poll_argument}
 use Rattle.portals.specs.EarlyMessages.{bad_handle_argument, unlink_tests}
 use Rattle.portals.specs.declared.admission.Admission.{Admission}
-use Rattle.portals.specs.declared.admission.Admission.TheVariants as Admission
 use Rattle.portals.proofs.GuardLaws.{AllPassed, guard-cases}
 
 -- ## Admitted

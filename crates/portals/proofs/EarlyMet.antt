@@ -24,7 +24,6 @@ use Rattle.early.specs.Handling.{handled}
 use Rattle.early.specs.Parts.{walk_of, WalkHolds, WalkedAs, is_done, IfDone, RoomFor, TargetAllows, TargetAfter}
 use Rattle.early.specs.declared.walk.Walked.{Walked}
 use Rattle.early.specs.declared.handling.Handling.{Handling}
-use Rattle.early.specs.declared.handling.Handling.TheVariants as Handling
 use Rattle.early.proofs.AfterLaws.{walk-view, walk-allows, after-view, after_same, after-fits}
 use Rattle.portals.specs.Refusals.{Condition, good_arguments}
 use Rattle.portals.specs.Admission.{by_admission, is_admitted, Admits}
@@ -33,7 +32,6 @@ use Rattle.portals.specs.Outcome.{Outcome}
 use Rattle.portals.specs.EarlyMessages.{taken_by, next_handle, append_by, appended, has_space, append_tests, append, search_handling, searched, search_tests, search, taken_or_linked, append_answered, append_handling}
 use Rattle.portals.specs.Promises.{AppendMet, SearchMet}
 use Rattle.portals.specs.declared.admission.Admission.{Admission}
-use Rattle.portals.specs.declared.admission.Admission.TheVariants as Admission
 use Rattle.portals.specs.declared.answers.AppendDone.{AppendDone}
 use Rattle.portals.specs.declared.answers.SearchDone.{SearchDone}
 use Rattle.portals.proofs.AdmitLaws.{admitted-is, admitted-sound, admitted-passed, admits-for}

@@ -4,7 +4,6 @@ use mathlib.Core.Bool.{Bool, true, false, cond, false≢true}
 use mathlib.Core.List.{List, [], ◌∷◌}
 use borrow.Author.Tests.{le-leb}
 use Rattle.matching.specs.declared.refusals.Refusal.{Refusal}
-use Rattle.matching.specs.declared.refusals.Refusal.TheVariants as Refusal
 use Rattle.state.specs.View.{View, view_of}
 use Rattle.state.specs.Soundness.{sound_view, counts_kept, is_sound, sound, unsound, seen}
 use Rattle.state.specs.Parts.{TargetFits}
@@ -17,7 +16,6 @@ use Rattle.portals.specs.Answers.{Answer, refused, is_refused}
 use Rattle.portals.specs.Outcome.{Outcome, refusal, guarded, guarded_read, read_unless_unsound}
 use Rattle.portals.specs.Promises.{Met, ReadMet}
 use Rattle.portals.specs.declared.admission.Admission.{Admission}
-use Rattle.portals.specs.declared.admission.Admission.TheVariants as Admission
 
 -- ## What is seen of a state
 

@@ -9,7 +9,6 @@ use borrow.Author.Tests.{not-true, not-false, ltb-false}
 use lib.Dec.{ltb}
 use lib.ListN.{set}
 use Rattle.matching.specs.declared.refusals.BadArgument.{BadArgument}
-use Rattle.matching.specs.declared.refusals.BadArgument.TheVariants as BadArgument
 use Rattle.state.specs.Lists.{remove_at}
 use Rattle.state.specs.View.{View, entries_of, queue_of, view_of, empty_target, empty_view, with_entries, with_queue, with_counters, is_linked_as}
 use Rattle.state.specs.Soundness.{sound_view, sound, seen}
@@ -38,7 +37,6 @@ use Rattle.portals.specs.EarlyMessages.{unlink_tests, unlinked, unlink, EntriesU
 use Rattle.portals.specs.Promises.{Met, ReadMet, NewMet}
 use Rattle.portals.specs.declared.answers.NewDone.{NewDone}
 use Rattle.portals.specs.declared.admission.Admission.{Admission}
-use Rattle.portals.specs.declared.admission.Admission.TheVariants as Admission
 use Rattle.portals.proofs.GuardLaws.{guard-cases, unless-map}
 use Rattle.portals.proofs.EarlyKept.{unlink-sound}
 use Rattle.portals.proofs.PartsKept.{new-sound, set-sound, increment-sound, read-event-sound, oldest-answers}

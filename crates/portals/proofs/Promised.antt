@@ -9,7 +9,8 @@ use mathlib.Core.Path.{◌≡◌, refl}
 use mathlib.Core.List.{List}
 use Prim.Native.Nat.{ℕ}
 use contract.Lifetimes.{Lfts}
-use denote.Ref.{Bor}
+use denote.Bor.{Bor}
+use denote.MutBor.{MutBor}
 use Rattle.matching.specs.declared.layout.Entry.{Entry}
 use Rattle.matching.specs.declared.layout.Request.{Request}
 use Rattle.state.specs.declared.layout.Settings.{Settings}
@@ -107,26 +108,26 @@ module _ (κs : Lfts 0) (t : Target) where
 
 -- ## The calls that are lent two slices
 
-module _ (κs : Lfts 2) (t : Target) (a b : Bor (List ℕ)) where
+module _ (κs : Lfts 2) (t : Target) where
   -- a is the memory, left as a', and b the payload
-  pub put-promised : (q : Request) (r : RequestDone) (a' : Bor (List ℕ))
+  pub put-promised : (a : MutBor (List ℕ)) (b : Bor (List ℕ)) (q : Request) (r : RequestDone) (a' : MutBor (List ℕ))
       → put.Learnt κs (t, (a, (q, (b, tt)))) r (t, (a', (q, (b, tt)))) ≡ PutMet t a.now q b.now r a'.now
-  put-promised q r a' = refl
+  put-promised a b q r a' = refl
 
-  pub put-free : (q : Request) → put.Asked κs (t, (a, (q, (b, tt)))) ≡ Unit {0}
-  put-free q = refl
+  pub put-free : (a : MutBor (List ℕ)) (b : Bor (List ℕ)) (q : Request) → put.Asked κs (t, (a, (q, (b, tt)))) ≡ Unit {0}
+  put-free a b q = refl
 
   -- a is the memory, and b the reply, left as b'
-  pub get-promised : (q : Request) (r : RequestDone) (b' : Bor (List ℕ))
+  pub get-promised : (a : Bor (List ℕ)) (b : MutBor (List ℕ)) (q : Request) (r : RequestDone) (b' : MutBor (List ℕ))
       → get.Learnt κs (t, (a, (q, (b, tt)))) r (t, (a, (q, (b', tt)))) ≡ GetMet t a.now q b.now r b'.now
-  get-promised q r b' = refl
+  get-promised a b q r b' = refl
 
-  pub get-free : (q : Request) → get.Asked κs (t, (a, (q, (b, tt)))) ≡ Unit {0}
-  get-free q = refl
+  pub get-free : (a : Bor (List ℕ)) (b : MutBor (List ℕ)) (q : Request) → get.Asked κs (t, (a, (q, (b, tt)))) ≡ Unit {0}
+  get-free a b q = refl
 
   -- a is the list of counters, and b that of their tests
-  pub poll-promised : (r : PollAnswer) → poll.Learnt κs (t, (a, (b, tt))) r (t, (a, (b, tt))) ≡ PollMet t a.now b.now r
-  poll-promised r = refl
+  pub poll-promised : (a b : Bor (List ℕ)) (r : PollAnswer) → poll.Learnt κs (t, (a, (b, tt))) r (t, (a, (b, tt))) ≡ PollMet t a.now b.now r
+  poll-promised a b r = refl
 
-  pub poll-free : poll.Asked κs (t, (a, (b, tt))) ≡ Unit {0}
-  poll-free = refl
+  pub poll-free : (a b : Bor (List ℕ)) → poll.Asked κs (t, (a, (b, tt))) ≡ Unit {0}
+  poll-free a b = refl

@@ -12,9 +12,7 @@ use Rattle.matching.specs.Request.{bad_request_argument, arrival_of, ack_given}
 use Rattle.matching.specs.declared.layout.Request.{Request}
 use Rattle.matching.specs.declared.refusals.Refusal.TheVariants as Refusal
 use Rattle.matching.specs.declared.refusals.BadArgument.{BadArgument}
-use Rattle.matching.specs.declared.refusals.BadArgument.TheVariants as BadArgument
 use Rattle.matching.specs.declared.request.Kind.{Kind}
-use Rattle.matching.specs.declared.request.Kind.TheVariants as Kind
 use Rattle.state.specs.Sizes.{MEMORY, HEADERS}
 use Rattle.state.specs.View.{View}
 use Rattle.state.specs.Soundness.{is_sound}
@@ -26,7 +24,6 @@ use Rattle.requests.specs.Decision.{decide, request_state}
 use Rattle.requests.specs.Parts.{BytesFit, OfDelivery, PartsAllow, Deliverable, Decides}
 use Rattle.requests.specs.declared.plan.Plan.{Plan}
 use Rattle.requests.specs.declared.decision.Decision.{Decision}
-use Rattle.requests.specs.declared.decision.Decision.TheVariants as Decision
 use Rattle.requests.proofs.RequestKept.{request-sound}
 use Rattle.requests.proofs.DecisionLaws.{claim-follows}
 use Rattle.portals.specs.Answers.{Answer, PRIORITY, OVERFLOW, is_refused}

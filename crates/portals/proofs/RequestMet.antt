@@ -6,9 +6,7 @@ use Prim.Native.Nat.{ℕ}
 use lib.ListN.{length}
 use Rattle.matching.specs.declared.layout.Request.{Request}
 use Rattle.matching.specs.declared.request.Kind.{Kind}
-use Rattle.matching.specs.declared.request.Kind.TheVariants as Kind
 use Rattle.matching.specs.declared.refusals.Refusal.{Refusal}
-use Rattle.matching.specs.declared.refusals.Refusal.TheVariants as Refusal
 use Rattle.state.specs.View.{View, view_of}
 use Rattle.state.specs.Soundness.{sound_view, counts_kept, is_sound, sound, seen}
 use Rattle.state.specs.declared.layout.Target.{Target}
@@ -18,7 +16,6 @@ use Rattle.requests.specs.Decision.{if_delivered, request_state}
 use Rattle.requests.specs.Parts.{TargetAfter}
 use Rattle.requests.specs.declared.plan.Plan.{Plan}
 use Rattle.requests.specs.declared.decision.Decision.{Decision}
-use Rattle.requests.specs.declared.decision.Decision.TheVariants as Decision
 use Rattle.portals.specs.Answers.{Answer, is_refused, request_answer}
 use Rattle.portals.specs.Outcome.{Outcome}
 use Rattle.portals.specs.Request.{answer_by, decided, carried_out, put, get, DecidedAs, EndedBy}

@@ -1,14 +1,12 @@
 -- Whether a call is admitted: its first step, by which its other steps go. Put and get have a decision in its place (Request.antt).
 use Rattle.std.specs.Prelude.{◌≡◌, Bool, true, false, List}
 use Rattle.matching.specs.declared.refusals.Refusal.{Refusal}
-use Rattle.matching.specs.declared.refusals.Refusal.TheVariants as Refusal
 use Rattle.state.specs.Soundness.{is_sound}
 use Rattle.state.specs.View.{View, view_of}
 use Rattle.state.specs.Parts.{TargetFits}
 use Rattle.state.specs.declared.layout.Target.{Target}
 use Rattle.portals.specs.Refusals.{Condition, unless_refused}
 use Rattle.portals.specs.declared.admission.Admission.{Admission}
-use Rattle.portals.specs.declared.admission.Admission.TheVariants as Admission
 
 -- whether a call is admitted, on any state: BAD_STATE comes before its own tests
 abbrev pub admission_if : Bool → List Condition → Admission

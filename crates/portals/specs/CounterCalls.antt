@@ -4,7 +4,6 @@ use Rattle.std.proofs.Math.Option.{Option, none, some}
 use Rattle.matching.specs.Refusals.{first_bad}
 use Rattle.matching.specs.Entry.{is_counter}
 use Rattle.matching.specs.declared.refusals.BadArgument.{BadArgument}
-use Rattle.matching.specs.declared.refusals.BadArgument.TheVariants as BadArgument
 use Rattle.state.specs.Counters.{counter_at, increased}
 use Rattle.state.specs.Registers.{register_at}
 use Rattle.state.specs.Lists.{every}

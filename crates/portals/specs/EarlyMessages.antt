@@ -5,7 +5,6 @@ use Rattle.matching.specs.Entry.{bad_entry_argument}
 use Rattle.matching.specs.declared.layout.Entry.{Entry}
 use Rattle.matching.specs.declared.refusals.Refusal.TheVariants as Refusal
 use Rattle.matching.specs.declared.refusals.BadArgument.{BadArgument}
-use Rattle.matching.specs.declared.refusals.BadArgument.TheVariants as BadArgument
 use Rattle.state.specs.Lists.{any, without_first}
 use Rattle.state.specs.Sizes.{SLOTS, LAST_HANDLE}
 use Rattle.state.specs.View.{View, entries_of, with_entries, is_linked_as}
@@ -16,7 +15,6 @@ use Rattle.state.specs.declared.layout.Entries.{Entries}
 use Rattle.early.specs.Walk.{Walk, walk_for, walk_if, found_once}
 use Rattle.early.specs.Handling.{handled}
 use Rattle.early.specs.declared.handling.Handling.{Handling}
-use Rattle.early.specs.declared.handling.Handling.TheVariants as Handling
 use Rattle.portals.specs.Refusals.{Condition, good_arguments}
 use Rattle.portals.specs.Answers.{LINKED, TAKEN, DONE, SEARCHED}
 use Rattle.portals.specs.Outcome.{Outcome, guarded}

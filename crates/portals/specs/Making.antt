@@ -3,7 +3,6 @@ use Rattle.std.specs.Prelude.{[], ◌∷◌, leb}
 use Rattle.matching.specs.Refusals.{first_bad}
 use Rattle.matching.specs.declared.refusals.Refusal.{Refusal}
 use Rattle.matching.specs.declared.refusals.BadArgument.{BadArgument}
-use Rattle.matching.specs.declared.refusals.BadArgument.TheVariants as BadArgument
 use Rattle.state.specs.Sizes.{MEMORY}
 use Rattle.state.specs.View.{View, empty_view}
 use Rattle.state.specs.declared.layout.Settings.{Settings}

@@ -1,7 +1,6 @@
 -- What a call leaves: its answer, the state, and the buffer that it was lent.
 use Rattle.std.specs.Prelude.{List}
 use Rattle.matching.specs.declared.refusals.Refusal.{Refusal}
-use Rattle.matching.specs.declared.refusals.Refusal.TheVariants as Refusal
 use Rattle.state.specs.View.{View}
 use Rattle.state.specs.Soundness.{Seen, sound, unsound}
 use Rattle.portals.specs.Refusals.{Condition, unless_refused}

@@ -2,7 +2,6 @@
 use Rattle.std.specs.Prelude.{Bool, cond, List, [], ◌∷◌}
 use Rattle.matching.specs.Refusals.{none_bad}
 use Rattle.matching.specs.declared.refusals.Refusal.{Refusal}
-use Rattle.matching.specs.declared.refusals.Refusal.TheVariants as Refusal
 use Rattle.matching.specs.declared.refusals.BadArgument.{BadArgument}
 
 -- a test that a call makes as it begins, and the refusal that it gives where the test is not passed

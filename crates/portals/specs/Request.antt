@@ -3,9 +3,7 @@ use Rattle.std.specs.Prelude.{◌≡◌, cond, List, [], ◌∷◌, ℕ, eqb, le
 use Rattle.matching.specs.Request.{bad_request_argument, arrival_of, ack_asked, ack_given}
 use Rattle.matching.specs.declared.layout.Request.{Request}
 use Rattle.matching.specs.declared.request.Kind.{Kind}
-use Rattle.matching.specs.declared.request.Kind.TheVariants as Kind
 use Rattle.matching.specs.declared.refusals.Refusal.{Refusal}
-use Rattle.matching.specs.declared.refusals.Refusal.TheVariants as Refusal
 use Rattle.state.specs.View.{View, view_of}
 use Rattle.state.specs.Soundness.{is_sound}
 use Rattle.state.specs.declared.layout.Target.{Target}
@@ -14,7 +12,6 @@ use Rattle.requests.specs.Decision.{decide, if_delivered, request_state}
 use Rattle.requests.specs.Parts.{OfDelivery, Deliverable, TargetAfter}
 use Rattle.requests.specs.declared.plan.Plan.{Plan}
 use Rattle.requests.specs.declared.decision.Decision.{Decision}
-use Rattle.requests.specs.declared.decision.Decision.TheVariants as Decision
 use Rattle.portals.specs.Refusals.{Condition, good_arguments, unless_refused}
 use Rattle.portals.specs.Answers.{Answer, PRIORITY, OVERFLOW, DROPPED, PERM, OP, refused, request_answer}
 use Rattle.portals.specs.Outcome.{Outcome}
