@@ -9,7 +9,6 @@ use lib.ListN.{length}
 use Rattle.matching.specs.declared.layout.Entry.{Entry}
 use Rattle.matching.specs.declared.layout.Request.{Request}
 use Rattle.matching.specs.declared.request.Kind.{Kind}
-use Rattle.matching.specs.declared.request.Kind.TheVariants as Kind
 use Rattle.state.specs.Sizes.{SLOTS, LAST_HANDLE}
 use Rattle.state.specs.View.{View}
 use Rattle.state.specs.declared.layout.Header.{Header}
@@ -19,7 +18,6 @@ use Rattle.state.proofs.SoundLaws.{Sound, sound-facts, facts-sound}
 use Rattle.requests.specs.Decision.{request_state}
 use Rattle.requests.specs.declared.plan.Plan.{Plan}
 use Rattle.requests.specs.declared.decision.Decision.{Decision}
-use Rattle.requests.specs.declared.decision.Decision.TheVariants as Decision
 use Rattle.requests.proofs.RequestKept.{none-beyond}
 use Rattle.early.specs.Walk.{Walk, found_once}
 use Rattle.early.specs.Handling.{last_after, handled}

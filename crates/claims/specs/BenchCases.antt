@@ -6,7 +6,6 @@ use Rattle.matching.specs.Request.{arrival_of, matches, accepted, place, unlinks
 use Rattle.matching.specs.declared.layout.Entry.{Entry}
 use Rattle.matching.specs.declared.layout.Request.{Request}
 use Rattle.matching.specs.declared.request.Kind.{Kind}
-use Rattle.matching.specs.declared.request.Kind.TheVariants as Kind
 use Rattle.matching.specs.declared.request.Arrival.{Arrival}
 use Rattle.state.specs.View.{View, EventQueue, empty_queue, empty_view, with_last, with_entries, with_headers, with_queue}
 use Rattle.state.specs.Soundness.{sound_view}

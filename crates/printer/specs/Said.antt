@@ -1,10 +1,8 @@
 -- Document 01, "Script and printout": what a line says of a call: "number, then ..". What follows the number begins with a space.
-use Rattle.std.specs.Prelude.{ℕ, ◌+◌, cond, List, [], ◌∷◌, ◌++◌, eqb, take}
+use Rattle.std.specs.Prelude.{ℕ, cond, List, [], ◌∷◌, ◌++◌, eqb, take}
 use Prim.Native.String.{String}
 use Rattle.matching.specs.declared.events.EventKind.{EventKind}
-use Rattle.matching.specs.declared.events.EventKind.TheVariants as EventKind
 use Rattle.matching.specs.declared.events.FailType.{FailType}
-use Rattle.matching.specs.declared.events.FailType.TheVariants as FailType
 use Rattle.state.specs.Kinds.{event_kind, fail_type}
 use Rattle.state.specs.declared.layout.Event.{Event}
 use Rattle.portals.specs.Answers.{Answer, REFUSED, MADE, LINKED, TAKEN, DONE, SEARCHED, PRIORITY, OVERFLOW, DROPPED, PERM, OP, EVENT, NONE, COUNTER, REGISTER, READY, NOT_READY, REACHED, NONE_REACHED}
