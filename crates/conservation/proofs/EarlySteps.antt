@@ -29,7 +29,6 @@ use Rattle.early.specs.HandOut as HandOut
 use Rattle.early.specs.Handling as handling
 use Rattle.early.specs.Handling.{new_entry, handled}
 use Rattle.early.specs.declared.handling.Handling.{Handling}
-use Rattle.early.specs.declared.handling.Handling.TheVariants as Handling
 use Rattle.portals.specs.Refusals.{good_arguments, unless_refused}
 use Rattle.portals.specs.Answers.{Answer, LINKED, TAKEN, DONE, SEARCHED, refused}
 use Rattle.portals.specs.Outcome.{Outcome, refusal}

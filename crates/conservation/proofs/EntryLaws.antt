@@ -24,7 +24,6 @@ use Rattle.requests.specs.Choice as choices
 use Rattle.requests.specs.Plan.{message, plan, entry_after, is_freed}
 use Rattle.requests.specs.Plan as requests
 use Rattle.requests.specs.declared.choice.Choice.{Choice}
-use Rattle.requests.specs.declared.choice.Choice.TheVariants as Choice
 use Rattle.early.specs.Handling.{new_entry}
 use Rattle.conservation.specs.Ledger.{Message, first_of, otherwise, chosen, with_local, moved, without, linked_after, delivery, message_of}
 use Rattle.conservation.specs.Conserved.{All}

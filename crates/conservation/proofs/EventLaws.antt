@@ -2,7 +2,7 @@
 use mathlib.Core.Path.{◌≡◌, refl, ap, sym, ◌∙◌}
 use mathlib.Core.Bool.{Bool, true, false, ◌&&◌, ◌||◌, not, cond, false≢true, and-false, and-true}
 use mathlib.Core.List.{List, [], ◌∷◌, ◌++◌, map, map-map, map-append, append-nil, append_assoc}
-use Prim.Native.Nat.{ℕ, ◌+◌, ◌-◌}
+use Prim.Native.Nat.{ℕ, ◌+◌}
 use native.Mathlib.Omega.{arith}
 use borrow.Author.Tests.{not-true, eqb-true, eqb-false, ne_eqb, eq-eqb}
 use lib.Dec.{eqb, ltb}
@@ -11,9 +11,7 @@ use lib.Seq.{drop-append_seam}
 use Rattle.matching.specs.Request.{unlinks}
 use Rattle.matching.specs.declared.layout.Entry.{Entry}
 use Rattle.matching.specs.declared.request.Kind.{Kind}
-use Rattle.matching.specs.declared.request.Kind.TheVariants as Kind
 use Rattle.matching.specs.declared.events.EventKind.{EventKind}
-use Rattle.matching.specs.declared.events.EventKind.TheVariants as EventKind
 use Rattle.state.specs.Sizes.{EVENTS}
 use Rattle.state.specs.Lists.{every, any, select}
 use Rattle.state.specs.Kinds.{kind_of, event_number}
@@ -77,7 +75,8 @@ module _ {reads : List Event} {q : EventQueue} {s : Fates} (t : SameEvents reads
 pub added-all : {reads : List Event} {q : EventQueue} {s : Fates} → SameEvents reads q s → (is : List Issued)
     → SameEvents reads (post_all q is) (add_all (length reads) s is)
 added-all t [] = t
-added-all t (i ∷ is) = added-all (added-one t i) is
+added-all {reads = reads} {q = q} {s = s} t (i ∷ is) =
+    added-all {q = post q i} {s = add_event (length reads) s i} (added-one t i) is
 
 -- the oldest is read: it moves from the queue to those read
 pub read_one : {reads : List Event} {q : EventQueue} {s : Fates} → SameEvents reads q s

@@ -3,7 +3,7 @@ use mathlib.Core.Path.{◌≡◌, refl, ap, sym, ◌∙◌, subst}
 use mathlib.Core.Bool.{Bool, true, false, ◌||◌, not, cond}
 use mathlib.Core.List.{List, [], ◌∷◌, ◌++◌}
 use mathlib.Core.Option.{Option, none, some}
-use Prim.Native.Nat.{ℕ, zero, suc, ◌+◌, ◌-◌, ◌<◌, ◌≤◌, ◌%◌, ◌^◌}
+use Prim.Native.Nat.{ℕ, zero, suc, ◌+◌, ◌<◌, ◌≤◌, ◌%◌, ◌^◌}
 use native.Mathlib.Omega.{arith}
 use borrow.Author.Tests.{eq-eqb}
 use lib.Dec.{eqb, ltb}
@@ -13,12 +13,9 @@ use Rattle.matching.specs.EarlyMessages.{takes_headers}
 use Rattle.matching.specs.Counters.{comm_amount}
 use Rattle.matching.specs.declared.layout.Request.{Request}
 use Rattle.matching.specs.declared.refusals.Refusal.{Refusal}
-use Rattle.matching.specs.declared.refusals.Refusal.TheVariants as Refusal
 use Rattle.matching.specs.declared.request.Arrival.{Arrival}
 use Rattle.matching.specs.declared.request.Kind.{Kind}
-use Rattle.matching.specs.declared.request.Kind.TheVariants as Kind
 use Rattle.matching.specs.declared.request.Verdict.{Verdict}
-use Rattle.matching.specs.declared.request.Verdict.TheVariants as Verdict
 use Rattle.state.specs.Sizes.{HEADERS}
 use Rattle.state.specs.Lists.{any, overwritten}
 use Rattle.state.specs.View.{View, entry_at, is_linked, with_registers, zero_entry}
@@ -37,7 +34,6 @@ use Rattle.requests.specs.Plan.{message, plan, entries_after, request_events, by
 use Rattle.requests.specs.Decision.{has_room, decide_by, decide_on, decide, if_delivered, request_state}
 use Rattle.requests.specs.declared.choice.Choice.{Choice}
 use Rattle.requests.specs.declared.decision.Decision.{Decision}
-use Rattle.requests.specs.declared.decision.Decision.TheVariants as Decision
 use Rattle.portals.specs.Refusals.{good_arguments, unless_refused}
 use Rattle.portals.specs.Answers.{Answer, PRIORITY, OVERFLOW, DROPPED, PERM, OP, refused}
 use Rattle.portals.specs.Outcome.{Outcome}

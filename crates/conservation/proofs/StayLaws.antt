@@ -34,7 +34,7 @@ use Rattle.early.specs.Handling.{new_entry}
 use Rattle.portals.specs.Answers.{Answer, LINKED, TAKEN, refused}
 use Rattle.portals.specs.Calls.{Call, append, unlink, search, put, get, read_event, set_counter, increment, read_counter, read_register, ready, poll}
 use Rattle.portals.proofs.GuardLaws.{guard-cases}
-use Rattle.conservation.specs.Steps.{Step, called, elsewhere, wrote, word, count, handle_in, says_linked, says_searched, says_priority, says_overflow, says_taken, says_done}
+use Rattle.conservation.specs.Steps.{Step, called, elsewhere, wrote, count, handle_in, says_linked, says_searched, says_priority, says_overflow, says_taken, says_done}
 use Rattle.conservation.specs.Ledger.{Message, Ledger, Effect, nothing, delivery, link, taken, remove, look, delete, change, empty, first_of, otherwise, chosen, delivery_to, request_effect, call_effect, effect_of, with_local, moved, without, linked_after, message_of, arrivals_of, append_walk, effect_heard, hear}
 use Rattle.conservation.specs.Runs.{Line, Stepped, Ran}
 use Rattle.conservation.specs.Runs as Runs

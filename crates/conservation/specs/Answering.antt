@@ -9,12 +9,9 @@ use Rattle.matching.specs.declared.layout.Entry.{Entry}
 use Rattle.matching.specs.declared.layout.Request.{Request}
 use Rattle.matching.specs.declared.refusals.Refusal.TheVariants as Refusal
 use Rattle.matching.specs.declared.refusals.BadArgument.{BadArgument}
-use Rattle.matching.specs.declared.refusals.BadArgument.TheVariants as BadArgument
 use Rattle.matching.specs.declared.request.Arrival.{Arrival}
 use Rattle.matching.specs.declared.request.Kind.{Kind}
-use Rattle.matching.specs.declared.request.Kind.TheVariants as Kind
 use Rattle.matching.specs.declared.request.Verdict.{Verdict}
-use Rattle.matching.specs.declared.request.Verdict.TheVariants as Verdict
 use Rattle.state.specs.Lists.{any, is_empty}
 use Rattle.state.specs.Sizes.{SLOTS, HEADERS, LAST_HANDLE}
 use Rattle.state.specs.Counters.{counter_at}

@@ -8,7 +8,6 @@ use Rattle.matching.specs.Counters.{comm_amount, overflow_amount}
 use Rattle.matching.specs.declared.layout.Entry.{Entry}
 use Rattle.matching.specs.declared.request.Arrival.{Arrival}
 use Rattle.matching.specs.declared.request.Kind.{Kind}
-use Rattle.matching.specs.declared.request.Kind.TheVariants as Kind
 use Rattle.state.specs.Sizes.{EVENTS, COUNTERS}
 use Rattle.state.specs.Lists.{any, select_not, sum_of}
 use Rattle.state.specs.View.{has_handle, zero_entry, zero_header, zero_counter}
@@ -23,7 +22,7 @@ use Rattle.requests.specs.Choice.{is_candidate}
 use Rattle.requests.specs.Plan.{message}
 use Rattle.early.specs.Walk.{Walk, walk, no_walk, uses_once, fits_header}
 use Rattle.early.specs.Handling.{new_entry}
-use Rattle.portals.specs.Answers.{Answer, LINKED, TAKEN, SEARCHED, PRIORITY, OVERFLOW}
+use Rattle.portals.specs.Answers.{Answer}
 use Rattle.portals.specs.Calls.{Call, append, unlink, search, put, get, read_event, set_counter, increment, read_counter, read_register, ready, poll}
 use Rattle.conservation.specs.Steps.{Step, called, elsewhere, wrote, handle_in, answers_in, events_read, says_linked, says_searched, says_priority, says_overflow, says_taken, says_done}
 

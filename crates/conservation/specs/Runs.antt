@@ -7,7 +7,6 @@ use Rattle.state.specs.declared.layout.CounterTest.{CounterTest}
 use Rattle.state.specs.declared.layout.Target.{Target}
 use Rattle.portals.specs.Answers.{Answer, append_answer, plain_answer, search_answer, request_answer, event_answer, counter_answer, register_answer, ready_answer, poll_answer}
 use Rattle.portals.specs.Calls.{Call}
-use Rattle.portals.specs.Calls as Call
 use Rattle.portals.specs.Promises.{AppendMet, UnlinkMet, SearchMet, PutMet, GetMet, ReadEventMet, SetCounterMet, IncrementMet, ReadCounterMet, ReadRegisterMet, ReadyMet, PollMet}
 use Rattle.portals.specs.declared.answers.AppendDone.{AppendDone}
 use Rattle.portals.specs.declared.answers.PlainDone.{PlainDone}
