@@ -19,7 +19,8 @@ use prog.Routine.{Routine}
 use types.Logic.{Logic}
 use contract.Lifetimes.{Lfts}
 use contract.Monad.{Fun, fact}
-use denote.Ref.{Bor}
+use denote.Bor.{Bor}
+use denote.MutBor.{MutBor}
 use denote.Triple.Clauses.{Ended, AtExit}
 use denote.Triple.Entry.{Args, Res}
 use denote.Triple.Spec.{SpecAt, exits}
@@ -95,7 +96,7 @@ module _ {M : Type 1} {𝓤 : Ura M} (𝓛 : Logic 𝓤) (mem : Memory → SProp
 
   -- ## The calls that are lent no slice. `left.0` is the target that is left
 
-  module _ (κs : Lfts 1) (t : Bor Target) where
+  module _ (κs : Lfts 1) (t : MutBor Target) where
     pub new-promised : (s : Settings) → new.spec 𝓛 mem run κs (t, (s, tt)) ≡ promises new.ended κs (t, (s, tt)) (λ r left. NewMet s (record { target = left.0.now; answer = r }))
     new-promised s = refl
 
@@ -117,6 +118,8 @@ module _ {M : Type 1} {𝓤 : Ura M} (𝓛 : Logic 𝓤) (mem : Memory → SProp
     pub increment-promised : (x : CounterChange) → increment.spec 𝓛 mem run κs (t, (x, tt)) ≡ promises increment.ended κs (t, (x, tt)) (λ r left. IncrementMet t.now x (record { target = left.0.now; answer = r }))
     increment-promised x = refl
 
+  -- and those that only read it
+  module _ (κs : Lfts 1) (t : Bor Target) where
     pub read-counter-promised : (k : ℕ) → read-counter.spec 𝓛 mem run κs (t, (k, tt)) ≡ promises read-counter.ended κs (t, (k, tt)) (λ r left. ReadCounterMet t.now k r)
     read-counter-promised k = refl
 
@@ -128,18 +131,18 @@ module _ {M : Type 1} {𝓤 : Ura M} (𝓛 : Logic 𝓤) (mem : Memory → SProp
 
   -- ## The calls that are lent two slices
 
-  module _ (κs : Lfts 3) (t : Bor Target) (a b : Bor (List ℕ)) where
+  module _ (κs : Lfts 3) where
     -- a is the memory, left as `left.1.0`, and b the payload
-    pub put-promised : (q : Request) → put.spec 𝓛 mem run κs (t, (a, (q, (b, tt)))) ≡ promises put.ended κs (t, (a, (q, (b, tt)))) (λ r left. PutMet t.now a.now q b.now (record { target = left.0.now; answer = r }) left.1.0.now)
-    put-promised q = refl
+    pub put-promised : (t : MutBor Target) (a : MutBor (List ℕ)) (b : Bor (List ℕ)) (q : Request) → put.spec 𝓛 mem run κs (t, (a, (q, (b, tt)))) ≡ promises put.ended κs (t, (a, (q, (b, tt)))) (λ r left. PutMet t.now a.now q b.now (record { target = left.0.now; answer = r }) left.1.0.now)
+    put-promised t a b q = refl
 
     -- a is the memory, and b the reply, left as `left.1.1.1.0`
-    pub get-promised : (q : Request) → get.spec 𝓛 mem run κs (t, (a, (q, (b, tt)))) ≡ promises get.ended κs (t, (a, (q, (b, tt)))) (λ r left. GetMet t.now a.now q b.now (record { target = left.0.now; answer = r }) left.1.1.1.0.now)
-    get-promised q = refl
+    pub get-promised : (t : MutBor Target) (a : Bor (List ℕ)) (b : MutBor (List ℕ)) (q : Request) → get.spec 𝓛 mem run κs (t, (a, (q, (b, tt)))) ≡ promises get.ended κs (t, (a, (q, (b, tt)))) (λ r left. GetMet t.now a.now q b.now (record { target = left.0.now; answer = r }) left.1.1.1.0.now)
+    get-promised t a b q = refl
 
     -- a is the list of counters, and b that of their tests
-    pub poll-promised : poll.spec 𝓛 mem run κs (t, (a, (b, tt))) ≡ promises poll.ended κs (t, (a, (b, tt))) (λ r left. PollMet t.now a.now b.now r)
-    poll-promised = refl
+    pub poll-promised : (t : Bor Target) (a b : Bor (List ℕ)) → poll.spec 𝓛 mem run κs (t, (a, (b, tt))) ≡ promises poll.ended κs (t, (a, (b, tt))) (λ r left. PollMet t.now a.now b.now r)
+    poll-promised t a b = refl
 
 -- ## Each call is a step: t is lent, and t' is left; m is the memory
 
