@@ -24,7 +24,6 @@ use Rattle.requests.specs.Plan.{entry_after, is_freed, entries_after, headers_af
 use Rattle.requests.specs.Parts.{OfDelivery, PartsAllow, TargetAfter}
 use Rattle.requests.specs.declared.plan.Plan.{Plan}
 use Rattle.requests.specs.declared.decision.Decision.{Decision}
-use Rattle.requests.specs.declared.decision.Decision.TheVariants as Decision
 use Rattle.inplace.specs.Patch.{counts_of, stored_at, unexpected_patched, Patched, PatchFits}
 use Rattle.inplace.specs.Decided.{delivery_patch, registers_patch, request_patch}
 use Rattle.inplace.proofs.PatchLaws.{postings-hold}

@@ -1,12 +1,3 @@
-pub mod Items
-pub mod Stores
-pub mod Moves
-pub mod Places
-pub mod Known
-pub mod AskTwo
-pub mod CounterStep
-pub mod RemovalStep
-pub mod Steps
 pub mod PatchLaws
 pub mod DecidedLaws
 pub mod ChangeLaws
@@ -15,5 +6,3 @@ pub mod FindLaws
 pub mod AdmissionLaws
 pub mod UnwalkedLaws
 pub mod UnwalkedMet
-pub mod Types
-pub mod Slots

@@ -28,9 +28,7 @@ use Rattle.requests.specs.Choice.{is_candidate, choice_in, choose}
 use Rattle.requests.specs.Decision.{decide_at, decide_on}
 use Rattle.requests.specs.Parts.{Bounded, Decides}
 use Rattle.requests.specs.declared.choice.Choice.{Choice}
-use Rattle.requests.specs.declared.choice.Choice.TheVariants as Choice
 use Rattle.requests.specs.declared.decision.Decision.{Decision}
-use Rattle.requests.specs.declared.decision.Decision.TheVariants as Decision
 use Rattle.requests.proofs.ChoiceLaws.{Trying, trying, trying-more, tried, tried-none}
 use Rattle.requests.proofs.DeliverableLaws.{place-asked, decides}
 use Rattle.inplace.specs.Seek.{stands_before, is_better, seen_as, seek_more, first_in, BestSoFar, Seeking, Sought, decide_best, decide_found}

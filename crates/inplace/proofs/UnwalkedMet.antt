@@ -24,7 +24,6 @@ use Rattle.early.specs.Walk.{no_walk, walk, uses_once, fits_header, walk_for}
 use Rattle.early.specs.Parts.{WalkedAs, TargetAllows, TargetAfter}
 use Rattle.early.specs.declared.walk.Walked.{Walked}
 use Rattle.early.specs.declared.handling.Handling.{Handling}
-use Rattle.early.specs.declared.handling.Handling.TheVariants as Handling
 use Rattle.early.proofs.AfterLaws.{walk-allows}
 use Rattle.early.proofs.WalkLaws.{not-walked}
 use Rattle.early.proofs.HandlingLaws.{part-made}
@@ -33,7 +32,6 @@ use Rattle.portals.specs.Admission.{is_admitted, Admits}
 use Rattle.portals.specs.EarlyMessages.{append_tests, search_tests, search_handling}
 use Rattle.portals.specs.Promises.{AppendMet, SearchMet}
 use Rattle.portals.specs.declared.admission.Admission.{Admission}
-use Rattle.portals.specs.declared.admission.Admission.TheVariants as Admission
 use Rattle.portals.specs.declared.answers.AppendAnswer.TheVariants as Append
 use Rattle.portals.specs.declared.answers.SearchAnswer.TheVariants as Search
 use Rattle.portals.proofs.AdmitLaws.{admitted-sound}

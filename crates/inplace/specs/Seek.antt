@@ -13,7 +13,6 @@ use Rattle.requests.specs.Choice.{is_candidate}
 use Rattle.requests.specs.Plan.{plan_for}
 use Rattle.requests.specs.Decision.{decide_by}
 use Rattle.requests.specs.declared.decision.Decision.{Decision}
-use Rattle.requests.specs.declared.decision.Decision.TheVariants as Decision
 use Rattle.inplace.specs.declared.seek.Asked.{Asked}
 use Rattle.inplace.specs.declared.seek.Seek.{Seek}
 

@@ -59,6 +59,7 @@ pub fn seek_begun(t: Target, x: Asked) -> Seek
 }
 
 // Rule 2. Most entries that do not match differ in the bits: nothing else is tested of those.
+#[tactic(auto, unfolding(matching::specs::Request::matches))]
 fn matches_request(e: Entry, local: u32, a: Arrival) -> bool
     ensures { result ≡ matches e local a }
 {
