@@ -277,8 +277,8 @@ GUSSETREED_SIZE_IS(gussetreed_counter_test, 16);
 
 /* ---- crates/gussetreed/src/layout.rt */
 
-/* What a call hands back to a host: unsigned numbers in C's layout, with no padding. What each number means is `replyOf` of the
- * specification, and for the event read `eventReplyOf`. */
+/* What a call hands back to a host: unsigned numbers in C's layout, with no padding. What each number means is `reply_of` of the
+ * specification, and for the event read `event_reply_of`. */
 
 /* An answer as numbers. A number that its answer has no use for is 0. */
 typedef struct gussetreed_reply {

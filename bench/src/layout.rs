@@ -24,18 +24,6 @@ pub use gussetreed::layout::*;
 pub use matching::layout::*;
 pub use state::layout::*;
 
-macro_rules! plain_data {
-    ($($t:ty),*) => { $(
-        impl Clone for $t { fn clone(&self) -> Self { *self } }
-        impl Copy for $t {}
-    )* };
-}
-
-plain_data!(
-    Entry, Request, Settings, HeldEntry, Entries, Header, Unexpected, Event, Queue, Counter, Counters, Registers, Target, CounterChange,
-    CounterTest, Reply, EventReply
-);
-
 /// A target with all numbers 0, for `new` to write to.
 pub fn zero_target() -> Box<Target> {
     // it has numbers only

@@ -41,7 +41,7 @@ fn all(from: Option<impl Read + Send + 'static>) -> Receiver<Vec<u8>> {
 impl Program {
     pub fn new(path: &Path, folder: &Path) -> Result<Program, String> {
         if !path.is_file() {
-            return Err(format!("{} is missing: `rt check vectors` proves and builds it", path.display()));
+            return Err(format!("{} is missing: `bin/hosts fuzz scripts` proves and builds it", path.display()));
         }
         Ok(Program { path: path.to_path_buf(), folder: folder.to_path_buf() })
     }

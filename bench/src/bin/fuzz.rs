@@ -46,7 +46,7 @@ case      a saved case again, with the answers of both sides; or any script file
 --count N       how many scripts ({SCRIPTS} if not given) or calls ({CALLS})
 --seed S        from which all is made (1 if not given): the same seed, the same run
 --plant NAME    an error in plain Rust, to see that it is found:
-{plants}--program FILE  the proved program (if not given, target/bin/vectors, which `rt check vectors` builds)
+{plants}--program FILE  the proved program (if not given, target/bin/vectors, which `bin/hosts fuzz scripts` builds)
 --save FOLDER   where a case is saved in which the two differ (if not given, the folder for temporary files)
 
 The work is done by a child process. If it crashes or panics, or a part of its work takes longer than {} s, the script or the calls

@@ -5,6 +5,8 @@ use matching::layout::{Entry, Request};
 use portals::{append, counters, making, poll, put_get};
 use state::empty;
 use state::layout::{CounterTest, Settings, Target};
+use std::io;
+use std::io::Stdout;
 
 // The target whose copies are lent, and the one that is handed over by value.
 #[derive(Clone, Copy)]
@@ -19,59 +21,60 @@ pub fn none() -> Pair {
     Pair { lent: t, value: t }
 }
 
-pub fn new(p: Pair, k: usize, size: u32) -> Pair {
+pub fn new(stdout: Stdout, p: Pair, k: usize, size: u32) -> io::Result<Pair> {
     let a = by_value::new(p.lent, Settings { size });
     let b = making::new(Settings { size });
     let x = a.answer;
     let y = b.answer;
-    said::say_new(b"lent  ", k, x);
-    said::say_new(b"value ", k, y);
+    said::say_new(stdout, b"lent  ", k, x)?;
+    said::say_new(stdout, b"value ", k, y)?;
     let lent = a.target;
     let value = b.target;
-    Pair { lent, value }
+    Ok(Pair { lent, value })
 }
 
-pub fn append(p: Pair, k: usize, e: Entry) -> Pair {
+pub fn append(stdout: Stdout, p: Pair, k: usize, e: Entry) -> io::Result<Pair> {
     let a = by_value::append(p.lent, e);
     let b = append::append(p.value, e);
     let x = a.answer;
     let y = b.answer;
-    said::say_append(b"lent  ", k, x);
-    said::say_append(b"value ", k, y);
+    said::say_append(stdout, b"lent  ", k, x)?;
+    said::say_append(stdout, b"value ", k, y)?;
     let lent = a.target;
     let value = b.target;
-    Pair { lent, value }
+    Ok(Pair { lent, value })
 }
 
 pub fn put(
+    stdout: Stdout,
     p: Pair,
     k: usize,
     q: Request,
     payload: &[u8],
     lent_memory: &mut [u8],
     value_memory: &mut [u8],
-) -> Pair {
+) -> io::Result<Pair> {
     let a = by_value::put(p.lent, lent_memory, q, payload);
     let b = put_get::put(p.value, value_memory, q, payload);
     let x = a.answer;
     let y = b.answer;
-    said::say_put(b"lent  ", k, x);
-    said::say_put(b"value ", k, y);
+    said::say_put(stdout, b"lent  ", k, x)?;
+    said::say_put(stdout, b"value ", k, y)?;
     let lent = a.target;
     let value = b.target;
-    Pair { lent, value }
+    Ok(Pair { lent, value })
 }
 
-pub fn ready(p: Pair, k: usize, test: CounterTest) {
+pub fn ready(stdout: Stdout, p: Pair, k: usize, test: CounterTest) -> io::Result<()> {
     let a = by_value::ready(p.lent, test);
     let b = counters::ready(p.value, test);
-    said::say_ready(b"lent  ", k, a);
-    said::say_ready(b"value ", k, b);
+    said::say_ready(stdout, b"lent  ", k, a)?;
+    said::say_ready(stdout, b"value ", k, b)
 }
 
-pub fn poll(p: Pair, k: usize, ks: &[u64], tests: &[u64]) {
+pub fn poll(stdout: Stdout, p: Pair, k: usize, ks: &[u64], tests: &[u64]) -> io::Result<()> {
     let a = by_value::poll(p.lent, ks, tests);
     let b = poll::poll(p.value, ks, tests);
-    said::say_poll(b"lent  ", k, a);
-    said::say_poll(b"value ", k, b);
+    said::say_poll(stdout, b"lent  ", k, a)?;
+    said::say_poll(stdout, b"value ", k, b)
 }

@@ -9,6 +9,8 @@ pub mod said;
 use crate::calls::Pair;
 use matching::layout::{Entry, Request};
 use state::layout::CounterTest;
+use std::io;
+use std::io::Stdout;
 
 // An entry of the priority list at portal 0, for the puts of any initiator with match bits 5, which counts them in counter 3.
 fn entry() -> Entry {
@@ -43,64 +45,74 @@ fn request() -> Request {
 }
 
 // A target of 64 bytes with an entry. In its place a target is refused, and one of size 0 is there, which has no room for the entry.
-fn refused() -> Pair {
-    let p = calls::new(calls::none(), 0, 64);
-    let p = calls::append(p, 1, entry());
-    let p = calls::new(p, 2, 65537);
-    calls::append(p, 3, entry())
+fn refused(stdout: Stdout) -> io::Result<Pair> {
+    let p = calls::new(stdout, calls::none(), 0, 64)?;
+    let p = calls::append(stdout, p, 1, entry())?;
+    let p = calls::new(stdout, p, 2, 65537)?;
+    calls::append(stdout, p, 3, entry())
 }
 
 // A new target again, on which handles begin with 1.
-fn made(p: Pair) -> Pair {
-    let p = calls::new(p, 4, 64);
-    calls::append(p, 5, entry())
+fn made(stdout: Stdout, p: Pair) -> io::Result<Pair> {
+    let p = calls::new(stdout, p, 4, 64)?;
+    calls::append(stdout, p, 5, entry())
 }
 
 // A message, and whether the entry's counter is ready before and after it.
-fn counted(p: Pair, lent_memory: &mut [u8], value_memory: &mut [u8]) -> Pair {
+fn counted(
+    stdout: Stdout,
+    p: Pair,
+    lent_memory: &mut [u8],
+    value_memory: &mut [u8],
+) -> io::Result<Pair> {
     calls::ready(
+        stdout,
         p,
         6,
         CounterTest {
             counter: 3,
             test: 1,
         },
-    );
-    let p = calls::put(p, 7, request(), b"abcd", lent_memory, value_memory);
+    )?;
+    let p = calls::put(stdout, p, 7, request(), b"abcd", lent_memory, value_memory)?;
     calls::ready(
+        stdout,
         p,
         8,
         CounterTest {
             counter: 3,
             test: 1,
         },
-    );
-    p
+    )?;
+    Ok(p)
 }
 
 // Counters that are polled, and a counter and a list that are refused.
-fn polled(p: Pair) {
-    calls::poll(p, 9, &[2, 3], &[1, 1]);
-    calls::poll(p, 10, &[3, 2], &[2, 1]);
-    calls::poll(p, 11, &[2, 3], &[1]);
+fn polled(stdout: Stdout, p: Pair) -> io::Result<()> {
+    calls::poll(stdout, p, 9, &[2, 3], &[1, 1])?;
+    calls::poll(stdout, p, 10, &[3, 2], &[2, 1])?;
+    calls::poll(stdout, p, 11, &[2, 3], &[1])?;
     calls::ready(
+        stdout,
         p,
         12,
         CounterTest {
             counter: 16,
             test: 0,
         },
-    );
+    )
 }
 
 // The list. The two targets have a memory each.
-fn run(lent_memory: &mut [u8], value_memory: &mut [u8]) {
-    let p = counted(made(refused()), lent_memory, value_memory);
-    polled(p);
+fn run(stdout: Stdout, lent_memory: &mut [u8], value_memory: &mut [u8]) -> io::Result<()> {
+    let p = refused(stdout)?;
+    let p = made(stdout, p)?;
+    let p = counted(stdout, p, lent_memory, value_memory)?;
+    polled(stdout, p)
 }
 
-fn main() {
+fn main(rt: HostRuntime) -> io::Result<()> {
     let mut lent_memory = [0u8; 64];
     let mut value_memory = [0u8; 64];
-    run(&mut lent_memory, &mut value_memory)
+    run(rt.stdout(), &mut lent_memory, &mut value_memory)
 }

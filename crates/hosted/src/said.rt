@@ -7,67 +7,70 @@ use portals::answers::{
     AppendAnswer, NewAnswer, PlainAnswer, PollAnswer, ReadyAnswer, RequestAnswer,
 };
 use printer::said;
+use std::io;
+use std::io::Stdout;
 
 // A line: the first bytes of a buffer.
-fn first(out: &[u8], n: usize) {
+fn first(stdout: Stdout, out: &[u8], n: usize) -> io::Result<()> {
     if n <= out.len() {
-        io::write_all(1, &out[..n]);
+        stdout.write_all(&out[..n])?;
     }
+    Ok(())
 }
 
 // How the call was made, and its line.
-fn say(way: &[u8], out: &[u8; 400], n: usize) {
-    io::write_all(1, way);
-    first(out, n);
-    io::write_all(1, b"\n");
+fn say(stdout: Stdout, way: &[u8], out: &[u8; 400], n: usize) -> io::Result<()> {
+    stdout.write_all(way)?;
+    first(stdout, out, n)?;
+    stdout.write_all(b"\n")
 }
 
-pub fn say_append(way: &[u8], k: usize, a: AppendAnswer) {
+pub fn say_append(stdout: Stdout, way: &[u8], k: usize, a: AppendAnswer) -> io::Result<()> {
     let mut out = [0u8; 400];
     let n = said::append_said(&mut out, k, a);
-    say(way, &out, n)
+    say(stdout, way, &out, n)
 }
 
-fn say_refused(way: &[u8], k: usize, refusal: Refusal) {
+fn say_refused(stdout: Stdout, way: &[u8], k: usize, refusal: Refusal) -> io::Result<()> {
     let mut out = [0u8; 400];
     let n = said::plain_said(&mut out, k, PlainAnswer::Refused(refusal));
-    say(way, &out, n)
+    say(stdout, way, &out, n)
 }
 
 // A word, and numbers behind it.
-fn say_word(way: &[u8], k: usize, word: &[u8], numbers: &[u64])
+fn say_word(stdout: Stdout, way: &[u8], k: usize, word: &[u8], numbers: &[u64]) -> io::Result<()>
     requires { 20 + length word.now + 21 * length numbers.now ≤ 400 }
 {
     let mut out = [0u8; 400];
     let n = said::put_said(&mut out, k, word, numbers);
-    say(way, &out, n)
+    say(stdout, way, &out, n)
 }
 
-pub fn say_put(way: &[u8], k: usize, a: RequestAnswer) {
+pub fn say_put(stdout: Stdout, way: &[u8], k: usize, a: RequestAnswer) -> io::Result<()> {
     let mut out = [0u8; 400];
     let n = said::request_said(&mut out, k, a);
-    say(way, &out, n)
+    say(stdout, way, &out, n)
 }
 
-pub fn say_new(way: &[u8], k: usize, a: NewAnswer) {
+pub fn say_new(stdout: Stdout, way: &[u8], k: usize, a: NewAnswer) -> io::Result<()> {
     match a {
-        NewAnswer::Made => say_word(way, k, b" MADE", &[]),
-        NewAnswer::Refused(refusal) => say_refused(way, k, refusal),
+        NewAnswer::Made => say_word(stdout, way, k, b" MADE", &[]),
+        NewAnswer::Refused(refusal) => say_refused(stdout, way, k, refusal),
     }
 }
 
-pub fn say_ready(way: &[u8], k: usize, a: ReadyAnswer) {
+pub fn say_ready(stdout: Stdout, way: &[u8], k: usize, a: ReadyAnswer) -> io::Result<()> {
     match a {
-        ReadyAnswer::Ready => say_word(way, k, b" READY", &[]),
-        ReadyAnswer::NotReady => say_word(way, k, b" NOT_READY", &[]),
-        ReadyAnswer::Refused(refusal) => say_refused(way, k, refusal),
+        ReadyAnswer::Ready => say_word(stdout, way, k, b" READY", &[]),
+        ReadyAnswer::NotReady => say_word(stdout, way, k, b" NOT_READY", &[]),
+        ReadyAnswer::Refused(refusal) => say_refused(stdout, way, k, refusal),
     }
 }
 
-pub fn say_poll(way: &[u8], k: usize, a: PollAnswer) {
+pub fn say_poll(stdout: Stdout, way: &[u8], k: usize, a: PollAnswer) -> io::Result<()> {
     match a {
-        PollAnswer::Reached(place) => say_word(way, k, b" REACHED", &[place as u64]),
-        PollAnswer::NoneReached => say_word(way, k, b" NONE_REACHED", &[]),
-        PollAnswer::Refused(refusal) => say_refused(way, k, refusal),
+        PollAnswer::Reached(place) => say_word(stdout, way, k, b" REACHED", &[place as u64]),
+        PollAnswer::NoneReached => say_word(stdout, way, k, b" NONE_REACHED", &[]),
+        PollAnswer::Refused(refusal) => say_refused(stdout, way, k, refusal),
     }
 }

@@ -11,6 +11,7 @@ use portals::making;
 use reader::judging::Verdict;
 use reader::{contents, judging};
 use state::layout::Settings;
+use std::io::Stdout;
 use text::{decimals, writing};
 
 // How far a printout is written.
@@ -34,13 +35,13 @@ fn line_buffer() -> [u8; LINE]
 
 // Hands the next bytes of a script's printout to standard output. No contract says what a foreign call writes, so the `requires` says
 // what may be handed to it: what the printout has behind the bytes that were handed over before.
-fn write_next(script: &[u8], done: Report, bytes: &[u8]) -> Report
+fn write_next(stdout: Stdout, script: &[u8], done: Report, bytes: &[u8]) -> Report
     requires { Next script.now done bytes.now }
     ensures { result.bytes ≡ done.bytes + length bytes.now }
 {
     let mut written = done.written;
     if written {
-        written = io::write_all(1, bytes);
+        written = stdout.write_all(bytes).is_ok();
     }
     let n = bytes.len();
     let total = done.bytes + n;
@@ -51,27 +52,33 @@ fn write_next(script: &[u8], done: Report, bytes: &[u8]) -> Report
 }
 
 // A bad head.
-fn report_head(script: &[u8], begun: Report, out: &mut [u8]) -> Report
+fn report_head(stdout: Stdout, script: &[u8], begun: Report, out: &mut [u8]) -> Report
     requires { (verdict_of script.now ≡ Verdict.BadHead) × ((begun.bytes ≡ 0) × (LINE ≤ length out.old)) }
     ensures { result.bytes ≡ length (printout_of script.now) }
 {
     let n = writing::put_bytes(out, 0, b"BAD_SCRIPT HEAD\n");
-    write_next(script, begun, &out[..n])
+    write_next(stdout, script, begun, &out[..n])
 }
 
 // A bad call.
-fn report_call(script: &[u8], begun: Report, call: usize, out: &mut [u8]) -> Report
+fn report_call(stdout: Stdout, script: &[u8], begun: Report, call: usize, out: &mut [u8]) -> Report
     requires { (verdict_of script.now ≡ Verdict.BadCall call) × ((begun.bytes ≡ 0) × (LINE ≤ length out.old)) }
     ensures { result.bytes ≡ length (printout_of script.now) }
 {
     let a = writing::put_bytes(out, 0, b"BAD_SCRIPT");
     let b = decimals::put_fields(out, a, &[call as u64]);
     let n = writing::put_byte(out, b, b'\n');
-    write_next(script, begun, &out[..n])
+    write_next(stdout, script, begun, &out[..n])
 }
 
 // Runs a good script on a memory. The line of a call goes out before the next call.
-fn run_lines(script: &[u8], begun: Report, memory: &mut [u8], out: &mut [u8]) -> Report
+fn run_lines(
+    stdout: Stdout,
+    script: &[u8],
+    begun: Report,
+    memory: &mut [u8],
+    out: &mut [u8],
+) -> Report
     requires { (verdict_of script.now ≡ Verdict.Good) × ((begun.bytes ≡ 0) × ((memory.old ≡ replicate (head_of script.now).memory 0) × (LINE ≤ length out.old))) }
     ensures { Replayed script.now result }
 {
@@ -86,7 +93,7 @@ fn run_lines(script: &[u8], begun: Report, memory: &mut [u8], out: &mut [u8]) ->
         let target = s.target;
         t = target;
         let n = s.length;
-        done = write_next(script, done, &out[..n]);
+        done = write_next(stdout, script, done, &out[..n]);
         let next = s.next;
         k = next;
     }
@@ -94,18 +101,18 @@ fn run_lines(script: &[u8], begun: Report, memory: &mut [u8], out: &mut [u8]) ->
 }
 
 // Runs a good script: its memory is the leading part of 16,384 zero bytes.
-fn run_good(script: &[u8], begun: Report, out: &mut [u8]) -> Report
+fn run_good(stdout: Stdout, script: &[u8], begun: Report, out: &mut [u8]) -> Report
     requires { (verdict_of script.now ≡ Verdict.Good) × ((begun.bytes ≡ 0) × (LINE ≤ length out.old)) }
     ensures { Replayed script.now result }
 {
     let head = contents::head_of(script);
     let size = head.memory as usize;
     let mut memory = run::zero_bytes();
-    run_lines(script, begun, &mut memory[..size], out)
+    run_lines(stdout, script, begun, &mut memory[..size], out)
 }
 
 // Judges a script and writes its printout: of a good one, what each call answers when all are run on a new target.
-pub fn replay(script: &[u8]) -> Report
+pub fn replay(stdout: Stdout, script: &[u8]) -> Report
     ensures { Replayed script.now result }
 {
     let mut out = line_buffer();
@@ -114,8 +121,8 @@ pub fn replay(script: &[u8]) -> Report
         written: true,
     };
     match judging::judge(script) {
-        Verdict::Good => run_good(script, begun, &mut out),
-        Verdict::BadHead => report_head(script, begun, &mut out),
-        Verdict::BadCall(call) => report_call(script, begun, call, &mut out),
+        Verdict::Good => run_good(stdout, script, begun, &mut out),
+        Verdict::BadHead => report_head(stdout, script, begun, &mut out),
+        Verdict::BadCall(call) => report_call(stdout, script, begun, call, &mut out),
     }
 }

@@ -2,37 +2,33 @@
 // printout of each stands a line with its name.
 #![tactic(auto)]
 
-use script::replay;
+use script::{input, replay};
+use std::fs::File;
+use std::{env, io};
 
-fn replay_file(path: &[u8]) -> bool {
-    let fd = os::open_read(path);
-    if fd < 0 {
-        os::fail(path);
-        return false;
-    }
+// Answers whether the whole printout was written.
+fn replay_file(rt: &HostRuntime, path: &str) -> io::Result<bool> {
+    let mut from = File::open(rt, path)?;
     let mut file = [0u8; 32769];
-    let n = io::read_full(fd, &mut file);
-    libc::close(fd);
-    io::write_all(1, b"== ");
-    io::write_all(1, path);
-    io::write_all(1, b"\n");
-    let report = replay::replay(&file[..n]);
-    report.written
+    let n = input::read_full(&mut from, &mut file);
+    println!(rt; "== {path}")?;
+    let report = replay::replay(rt.stdout(), &file[..n]);
+    Ok(report.written)
 }
 
-fn replay_argument(i: usize) {
-    let mut path = io::buffer();
-    let n = os::arg(i, &mut path);
-    if !replay_file(&path[..n]) {
-        io::write_all(2, b"vectors: not replayed, or its printout not written\n");
+// What fails is said on standard error, and the next file's turn comes.
+fn replay_argument(rt: &HostRuntime, path: &str) -> io::Result<()> {
+    match replay_file(rt, path) {
+        Ok(true) => return Ok(()),
+        Ok(false) => {}
+        Err(e) => eprintln!(rt; "{path}: {e}")?,
     }
+    eprintln!(rt; "vectors: not replayed, or its printout not written")
 }
 
-fn main() {
-    let count = os::arg_count();
-    let mut i: usize = 1;
-    while i < count {
-        replay_argument(i);
-        i += 1;
+fn main(rt: HostRuntime) -> io::Result<()> {
+    for path in env::args(&rt)?.skip(1) {
+        replay_argument(&rt, path.as_str())?;
     }
+    Ok(())
 }
