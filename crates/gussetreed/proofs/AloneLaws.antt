@@ -1,15 +1,10 @@
 -- An append or a search that walks no header keeps its promise once its patch is stored.
 use mathlib.Core.Path.{◌≡◌}
 use mathlib.Core.Bool.{true, ◌||◌, not}
-use mathlib.Core.List.{List, map}
 use Prim.Native.Nat.{◌+◌, ◌≤◌, ◌<◌}
 use borrow.Author.Rules.{rules}
 use borrow.Author.Tests.{eqb-true}
-use mir.Val.{Val}
 use denote.Laws.{Is}
-use denote.Array.{Array}
-use denote.Struct.Declared.{shape}
-use denote.Struct.Struct.{Struct}
 use denote.Struct.Laws as LL
 use lib.Dec.{eqb}
 use Rattle.matching.specs.declared.layout.Entry.{Entry}
@@ -18,6 +13,10 @@ use Rattle.state.specs.Sizes.{EVENTS, COUNTERS, LAST_HANDLE}
 use Rattle.state.specs.View.{zero_counter}
 use Rattle.state.specs.declared.layout.Target.{Target}
 use Rattle.state.proofs.ListLaws.{both}
+use Rattle.state.specs.contracts.layout.Target as Target
+use Rattle.state.proofs.layout.Target.TheLaws as Target'
+use Rattle.state.specs.contracts.layout.Counters as Counters
+use Rattle.state.proofs.layout.Counters.TheLaws as Counters'
 use Rattle.state.specs.contracts.layout.Counter as Counter
 use Rattle.state.proofs.layout.Counter.TheLaws as Counter'
 use Rattle.portals.specs.Admission.{is_admitted, Admits}
@@ -38,9 +37,12 @@ use Rattle.gussetreed.specs.Alone.{links_alone, searches_nothing}
 use Rattle.gussetreed.specs.declared.layout.Reply.{Reply}
 
 -- the counters of a target are numbers of 64 bits
-pub counters-fit : (slots : List (Counter.the_type).D) (vs : List Val) → Is (Array (Struct (shape Counter.the_type)) COUNTERS) (map (Counter.the_type).to slots) vs → CountersFit slots
-counters-fit slots vs is k h =
-    let x = LL.owed Counter.the_type Counter'.the_laws _ _ (array-element Counter.the_type Counter'.the_laws COUNTERS slots vs is zero_counter k h) in
+pub counters-fit : (t : Target) → Is Target.the_row t (LL.vals Target.the_type Target'.the_laws t) → CountersFit t.counters.slots
+counters-fit t is k h =
+    let parts = LL.owed Target.the_type Target'.the_laws t _ is in
+    let counters = LL.owed Counters.the_type Counters'.the_laws t.counters _ parts.1.1.1.1.1.0 in
+    let slot = array-element Counter.the_row COUNTERS t.counters.slots _ counters.0 zero_counter k h in
+    let x = LL.owed Counter.the_type Counter'.the_laws _ _ slot in
     (search (rules, x.0), search (rules, x.1.0))
 
 module _ (t : Target) (a : Admission) (e : Entry) where

@@ -18,7 +18,8 @@ use prog.Routine.{Routine}
 use types.Logic.{Logic}
 use contract.Lifetimes.{Lfts}
 use contract.Monad.{Fun}
-use denote.Ref.{Bor}
+use denote.Bor.{Bor}
+use denote.MutBor.{MutBor}
 use Rattle.matching.specs.declared.layout.Entry.{Entry}
 use Rattle.matching.specs.declared.layout.Request.{Request}
 use Rattle.state.specs.View.{view_of}
@@ -61,7 +62,7 @@ use Rattle.gussetreed.specs.contracts.calls.gussetreed_poll as poll
 module _ {M : Type 1} {𝓤 : Ura M} (𝓛 : Logic 𝓤) (mem : Memory → SProp 𝓤) (run : Routine → Fun 𝓤) where
   -- ## The calls that are lent no slice. `left.0` is the target that is left
 
-  module _ (κs : Lfts 1) (t : Bor Target) where
+  module _ (κs : Lfts 1) (t : MutBor Target) where
     pub new-promised : (s : Settings) → new.spec 𝓛 mem run κs (t, (s, tt)) ≡ promises 𝓛 mem run new.ended κs (t, (s, tt)) (λ r left. NewTold s (record { target = left.0.now; answer = r }))
     new-promised s = refl
 
@@ -83,6 +84,8 @@ module _ {M : Type 1} {𝓤 : Ura M} (𝓛 : Logic 𝓤) (mem : Memory → SProp
     pub increment-promised : (x : CounterChange) → increment.spec 𝓛 mem run κs (t, (x, tt)) ≡ promises 𝓛 mem run increment.ended κs (t, (x, tt)) (λ r left. IncrementTold t.now x (record { target = left.0.now; answer = r }))
     increment-promised x = refl
 
+  -- and those that only read it
+  module _ (κs : Lfts 1) (t : Bor Target) where
     pub read-counter-promised : (k : ℕ) → read-counter.spec 𝓛 mem run κs (t, (k, tt)) ≡ promises 𝓛 mem run read-counter.ended κs (t, (k, tt)) (λ r left. ReadCounterTold t.now k r)
     read-counter-promised k = refl
 
@@ -94,18 +97,18 @@ module _ {M : Type 1} {𝓤 : Ura M} (𝓛 : Logic 𝓤) (mem : Memory → SProp
 
   -- ## The calls that are lent two slices
 
-  module _ (κs : Lfts 3) (t : Bor Target) (a b : Bor (List ℕ)) where
+  module _ (κs : Lfts 3) where
     -- a is the memory, left as `left.1.0`, and b the payload
-    pub put-promised : (q : Request) → put.spec 𝓛 mem run κs (t, (a, (q, (b, tt)))) ≡ promises 𝓛 mem run put.ended κs (t, (a, (q, (b, tt)))) (λ r left. PutTold t.now a.now q b.now (record { target = left.0.now; answer = r }) left.1.0.now)
-    put-promised q = refl
+    pub put-promised : (t : MutBor Target) (a : MutBor (List ℕ)) (b : Bor (List ℕ)) (q : Request) → put.spec 𝓛 mem run κs (t, (a, (q, (b, tt)))) ≡ promises 𝓛 mem run put.ended κs (t, (a, (q, (b, tt)))) (λ r left. PutTold t.now a.now q b.now (record { target = left.0.now; answer = r }) left.1.0.now)
+    put-promised t a b q = refl
 
     -- a is the memory, and b the buffer, left as `left.1.1.1.0`
-    pub get-promised : (q : Request) → get.spec 𝓛 mem run κs (t, (a, (q, (b, tt)))) ≡ promises 𝓛 mem run get.ended κs (t, (a, (q, (b, tt)))) (λ r left. GetTold t.now a.now q b.now (record { target = left.0.now; answer = r }) left.1.1.1.0.now)
-    get-promised q = refl
+    pub get-promised : (t : MutBor Target) (a : Bor (List ℕ)) (b : MutBor (List ℕ)) (q : Request) → get.spec 𝓛 mem run κs (t, (a, (q, (b, tt)))) ≡ promises 𝓛 mem run get.ended κs (t, (a, (q, (b, tt)))) (λ r left. GetTold t.now a.now q b.now (record { target = left.0.now; answer = r }) left.1.1.1.0.now)
+    get-promised t a b q = refl
 
     -- a is the list of counters, and b that of their tests
-    pub poll-promised : poll.spec 𝓛 mem run κs (t, (a, (b, tt))) ≡ promises 𝓛 mem run poll.ended κs (t, (a, (b, tt))) (λ r left. PollTold t.now a.now b.now r)
-    poll-promised = refl
+    pub poll-promised : (t : Bor Target) (a b : Bor (List ℕ)) → poll.spec 𝓛 mem run κs (t, (a, (b, tt))) ≡ promises 𝓛 mem run poll.ended κs (t, (a, (b, tt))) (λ r left. PollTold t.now a.now b.now r)
+    poll-promised t a b = refl
 
 -- ## The reply is the answer of the definition
 

@@ -10,9 +10,7 @@ use lib.ListN.{length}
 use borrow.Author.Tests.{eqb-true, eqb-false}
 use Rattle.matching.specs.declared.layout.Request.{Request}
 use Rattle.matching.specs.declared.refusals.BadArgument.{BadArgument}
-use Rattle.matching.specs.declared.refusals.BadArgument.TheVariants as BadArgument
 use Rattle.matching.specs.declared.request.Kind.{Kind}
-use Rattle.matching.specs.declared.request.Kind.TheVariants as Kind
 use Rattle.state.specs.Sizes.{SLOTS, EVENTS, COUNTERS}
 use Rattle.state.specs.Lists.{any, first_from, place_or}
 use Rattle.state.specs.View.{entries_of, queue_of, is_linked_as}
@@ -37,7 +35,6 @@ use Rattle.portals.specs.EarlyMessages.{EntriesUnlinked}
 use Rattle.portals.specs.EventRead.{oldest_of}
 use Rattle.portals.specs.Request.{answer_by, DecidedAs}
 use Rattle.portals.specs.declared.admission.Admission.{Admission}
-use Rattle.portals.specs.declared.admission.Admission.TheVariants as Admission
 use Rattle.portals.specs.declared.answers.PlainAnswer.{PlainAnswer}
 use Rattle.portals.specs.declared.answers.EventAnswer.{EventAnswer}
 use Rattle.portals.specs.declared.answers.RequestAnswer.{RequestAnswer}

@@ -23,7 +23,6 @@ use Rattle.reader.specs.Contents.{CALLS, head_of}
 use Rattle.reader.specs.Judging.{SCRIPT_MEMORY, verdict_of}
 use Rattle.reader.specs.declared.contents.Head.{Head}
 use Rattle.reader.specs.declared.judging.Verdict.{Verdict}
-use Rattle.reader.specs.declared.judging.Verdict.TheVariants as Verdict
 use Rattle.reader.proofs.JudgingLaws.{good-head}
 use Rattle.script.specs.Printout.{call_at, lines_from, printout_by, printout_of}
 use Rattle.script.specs.Log.{logged, log_from, log_of}

@@ -27,7 +27,6 @@ use Rattle.reader.specs.declared.contents.LineRead.{LineRead}
 use Rattle.reader.specs.declared.calls.Call as script
 use Rattle.reader.specs.declared.calls.Call.TheVariants as Script
 use Rattle.reader.specs.declared.calls.CallKind.{CallKind}
-use Rattle.reader.specs.declared.calls.CallKind.TheVariants as CallKind
 use Rattle.reader.proofs.JudgingLaws.{formed-next, good-put, good-get}
 use Rattle.printer.specs.Said.{SAID, said, shown_of}
 use Rattle.script.specs.Run.{asked, Called, called}

@@ -9,7 +9,6 @@ use Rattle.reader.specs.Calls.{call_kind, call_of}
 use Rattle.reader.specs.Judging.{verdict_of}
 use Rattle.reader.specs.declared.contents.Line.{Line}
 use Rattle.reader.specs.declared.judging.Verdict.{Verdict}
-use Rattle.reader.specs.declared.judging.Verdict.TheVariants as Verdict
 use Rattle.printer.specs.Said.{said}
 use Rattle.script.specs.Run.{asked, Called, called}
 

@@ -1,0 +1,11 @@
+use native.Mathlib.Omega.{arith}
+use lib.ListN.{length}
+use Rattle.script.proofs.RunLaws.{get-ran}
+use Rattle.script.proofs.run.run_get_into.Goals as goal
+
+pub returns : goal.returns
+returns c =
+    let reply = c.get-d.new.reply in
+    get-ran c.args.t c.args.memory.now c.args.q c.args.k _ c.get-d.result _ _ c.args.reply.now _ _ (length reply) _
+    c.get-d.ensures (omega (arith, c.requires.0, c.get-d.auto.reply))
+    c.request_said-a.ensures c.put_reply-length.ensures

@@ -1,0 +1,12 @@
+use Rattle.portals.specs.Calls as Calls
+use Rattle.portals.specs.CounterCalls as counters
+use mathlib.Core.Path.{refl}
+use Rattle.conservation.specs.Runs as runs
+use Rattle.script.proofs.RunLaws.{ran}
+use Rattle.script.proofs.run.run_set_counter.Goals as goal
+
+pub returns : goal.returns
+returns c =
+    let met = c.set_counter-d.ensures in
+    ran (Calls.set_counter c.args.x) c.args.t c.args.k _ _ _ (λ v. counters.set_counter v c.args.x) _ (λ v m. refl) met
+    (λ m. runs.set_counter c.set_counter-d.result met) c.plain_said-length.ensures
