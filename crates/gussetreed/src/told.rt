@@ -114,7 +114,7 @@ pub fn get(t: Target, d: Decision, memory: &[u8], q: Request, buffer: &mut [u8])
 
 // ## Unlink
 
-// What is asked of the target is the handle itself. The law of these calls, `TestedOne` of `thin`, has a function in this place.
+// What is asked of the target is the handle itself.
 pub fn handle_asked(handle: u32) -> u32
     ensures { result ≡ handle }
 {

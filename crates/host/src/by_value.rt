@@ -1,6 +1,5 @@
-// The calls on a lent target, by value again. Code that the borrow checker covers cannot lend a struct, and calls these: each lends a
-// copy of the target to the call in `lent`, and hands back the copy as that call left it. The promise is the one of the call of its name
-// in `portals`, letter for letter.
+// The calls on a lent target, by value again: each lends a copy of the target to the call in `lent`, and hands back the copy as that call
+// left it. The promise is the one of the call of its name in `portals`, letter for letter.
 ghost use Rattle.portals.specs.Promises.{NewMet, AppendMet, UnlinkMet, SearchMet, PutMet, GetMet, ReadEventMet, SetCounterMet, IncrementMet, ReadCounterMet, ReadRegisterMet, ReadyMet, PollMet};
 
 use crate::lent;

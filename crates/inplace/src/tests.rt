@@ -1,5 +1,5 @@
-// What is tested of a lent target, where it is: its entries are read one by one. The laws of `thin` are for loops of this form, so some
-// functions that these call have a parameter that they do not use.
+// What is tested of a lent target, where it is: its entries are read one by one. All of these have one form, so some functions that
+// they call have a parameter that they do not use.
 ghost use Rattle.std.specs.Prelude.{◌∷◌, []};
 ghost use Rattle.portals.specs.Refusals.{good_arguments};
 ghost use Rattle.portals.specs.Admission.{Admits};

@@ -1,5 +1,5 @@
 // The answers of the calls: an enum for each. A call that may change the state hands back the state that it leaves and then its
-// answer, in the order that the laws of `thin` ask for.
+// answer.
 use matching::refusals::Refusal;
 use state::layout::{Counter, Event, Target};
 

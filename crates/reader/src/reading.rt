@@ -36,7 +36,7 @@ pub fn current<'a>(r: Reader<'a>) -> LineRead
     contents::read_at(r.script, r.next)
 }
 
-// Reads the line at a place, by way of a reader that is opened on the script and moved there. Whoever calls this needs no proof by hand.
+// Reads the line at a place, by way of a reader that is opened on the script and moved there.
 pub fn line_from(script: &[u8], place: usize) -> LineRead
     ensures { result ≡ read_at script.now place }
 {

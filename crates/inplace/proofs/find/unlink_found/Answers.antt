@@ -21,7 +21,7 @@ returns-then-not-s c =
     record {
       admits =
           test-refused (λ v. unlink_tests v c.args.handle) c.args.t c.scan_sound.result c.scan_sound.ensures c.if-not-scan_sound.false-raw
-          (here (handle-bad c.args.t c.args.handle c.args.t.entries.count (c.scan_sound.ensures.fits (not-false _ c.if-not-scan_sound.false-raw)) (none_found c.args.t c.args.handle c.args.s c.requires.0 c.requires.1 (c.requires.0.pass.scan.kept ∙ (sound-parts c.args.t (sym c.scan_sound.ensures.answer ∙ not-false _ c.if-not-scan_sound.false-raw)).0) (not-true _ c.if-not-s.true)) refl));
+          (here (handle-bad c.args.t c.args.handle c.args.t.entries.count (c.scan_sound.ensures.fits c.if-not-scan_sound.false) (none_found c.args.t c.args.handle c.args.s c.requires.0 c.requires.1 (c.requires.0.pass.scan.kept ∙ (sound-parts c.args.t (sym c.scan_sound.ensures.answer ∙ c.if-not-scan_sound.false)).0) (not-true _ c.if-not-s.true)) refl));
       place = λ h. absurd (refused-not Refusal.ArgInvalid h);
     }
 
@@ -32,7 +32,7 @@ returns-then-is_used c =
           test-refused (λ v. unlink_tests v c.args.handle) c.args.t c.scan_sound.result c.scan_sound.ensures c.if-not-scan_sound.false-raw
           (later (let found = not-false _ c.if-not-s.false in
           let inside : c.args.s.place < c.args.t.entries.count = c.requires.0.inside found in
-          handle-good c.args.t c.args.handle c.args.s.place (c.scan_sound.ensures.fits (not-false _ c.if-not-scan_sound.false-raw)) (found-place c.args.t c.args.handle c.args.s c.requires.0 c.requires.1 (c.requires.0.pass.scan.kept ∙ (sound-parts c.args.t (sym c.scan_sound.ensures.answer ∙ not-false _ c.if-not-scan_sound.false-raw)).0) found) (λ h. omega arith)) (here (handle-used c.args.t c.args.handle c.is_used.result c.is_used.ensures c.if-is_used.true)));
+          handle-good c.args.t c.args.handle c.args.s.place (c.scan_sound.ensures.fits c.if-not-scan_sound.false) (found-place c.args.t c.args.handle c.args.s c.requires.0 c.requires.1 (c.requires.0.pass.scan.kept ∙ (sound-parts c.args.t (sym c.scan_sound.ensures.answer ∙ c.if-not-scan_sound.false)).0) found) (λ h. omega arith)) (here (handle-used c.args.t c.args.handle c.is_used.result c.is_used.ensures c.if-is_used.true)));
       place = λ h. absurd (refused-not Refusal.InUse h);
     }
 
@@ -43,8 +43,8 @@ returns c =
           all-admitted (λ v. unlink_tests v c.args.handle) c.args.t c.scan_sound.result c.scan_sound.ensures c.if-not-scan_sound.false-raw (
             (let found = not-false _ c.if-not-s.false in
                 let inside : c.args.s.place < c.args.t.entries.count = c.requires.0.inside found in
-                handle-good c.args.t c.args.handle c.args.s.place (c.scan_sound.ensures.fits (not-false _ c.if-not-scan_sound.false-raw)) (found-place c.args.t c.args.handle c.args.s c.requires.0 c.requires.1 (c.requires.0.pass.scan.kept ∙ (sound-parts c.args.t (sym c.scan_sound.ensures.answer ∙ not-false _ c.if-not-scan_sound.false-raw)).0) found) (λ h. omega arith)),
+                handle-good c.args.t c.args.handle c.args.s.place (c.scan_sound.ensures.fits c.if-not-scan_sound.false) (found-place c.args.t c.args.handle c.args.s c.requires.0 c.requires.1 (c.requires.0.pass.scan.kept ∙ (sound-parts c.args.t (sym c.scan_sound.ensures.answer ∙ c.if-not-scan_sound.false)).0) found) (λ h. omega arith)),
             (handle-free c.args.t c.args.handle c.is_used.result c.is_used.ensures c.if-is_used.false, tt),
           );
-      place = λ h. found-place c.args.t c.args.handle c.args.s c.requires.0 c.requires.1 (c.requires.0.pass.scan.kept ∙ (sound-parts c.args.t (sym c.scan_sound.ensures.answer ∙ not-false _ c.if-not-scan_sound.false-raw)).0) (not-false _ c.if-not-s.false);
+      place = λ h. found-place c.args.t c.args.handle c.args.s c.requires.0 c.requires.1 (c.requires.0.pass.scan.kept ∙ (sound-parts c.args.t (sym c.scan_sound.ensures.answer ∙ c.if-not-scan_sound.false)).0) (not-false _ c.if-not-s.false);
     }

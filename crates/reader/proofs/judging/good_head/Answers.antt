@@ -1,6 +1,5 @@
 -- The tests in their order.
 use mathlib.Core.Path.{sym, ◌∙◌}
-use borrow.Author.Tests.{not-true, not-false}
 use Rattle.reader.proofs.JudgingLaws.{head-short, fields-bad, file-long, contents-cut, by_lengths}
 use Rattle.reader.proofs.judging.good_head.Goals as goal
 
@@ -10,20 +9,20 @@ returns-then-s-lt-HEAD c = sym (head-short c.args.s.now c.if-s-lt-HEAD.true)
 pub returns-then-not-good_fields : goal.returns-then-not-good_fields
 returns-then-not-good_fields c =
     sym (fields-bad c.args.s.now c.head_of-h.result c.if-s-lt-HEAD.false c.head_of-h.ensures
-    (sym c.good_fields.ensures ∙ not-true c.good_fields.result c.if-not-good_fields.true-raw))
+    (sym c.good_fields.ensures ∙ c.if-not-good_fields.true))
 
 pub returns-then-n-gt-FILE : goal.returns-then-n-gt-FILE
 returns-then-n-gt-FILE c =
     sym (file-long c.args.s.now c.head_of-h.result c.if-s-lt-HEAD.false c.head_of-h.ensures
-    (sym c.good_fields.ensures ∙ not-false c.good_fields.result c.if-not-good_fields.false-raw) c.if-n-gt-FILE.true)
+    (sym c.good_fields.ensures ∙ c.if-not-good_fields.false) c.if-n-gt-FILE.true)
 
 pub returns-then-n-bodies : goal.returns-then-n-bodies
 returns-then-n-bodies c =
     sym (contents-cut c.args.s.now c.head_of-h.result c.if-s-lt-HEAD.false c.head_of-h.ensures
-    (sym c.good_fields.ensures ∙ not-false c.good_fields.result c.if-not-good_fields.false-raw) c.if-n-gt-FILE.false c.if-n-bodies.true)
+    (sym c.good_fields.ensures ∙ c.if-not-good_fields.false) c.if-n-gt-FILE.false c.if-n-bodies.true)
 
 pub returns : goal.returns
 returns c =
     rw c.body_lengths.ensures
     (sym (by_lengths c.args.s.now c.head_of-h.result c.if-s-lt-HEAD.false c.head_of-h.ensures
-    (sym c.good_fields.ensures ∙ not-false c.good_fields.result c.if-not-good_fields.false-raw) c.if-n-gt-FILE.false c.if-n-bodies.false))
+    (sym c.good_fields.ensures ∙ c.if-not-good_fields.false) c.if-n-gt-FILE.false c.if-n-bodies.false))
