@@ -1,6 +1,6 @@
 -- Answers told in numbers.
 --     known: what is told of the answer that an arm knows is told of the answer itself.
---     read-back: a reply can be read back, so that no two answers are told alike.
+--     read_back_lem: a reply can be read back, so that no two answers are told alike.
 --     by-definition, read-by-definition: a call's reply is the answer that its definition gives, told in numbers.
 -- Assumes nothing.
 use mathlib.Core.Path.{◌≡◌, refl, ap, sym, ◌∙◌}
