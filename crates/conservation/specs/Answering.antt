@@ -1,6 +1,6 @@
 -- What the ledger says of the answer of each call: its refusals, and what it answers if it is not refused.
 use Rattle.std.specs.Prelude.{◌≡◌, Bool, true, false, ◌||◌, ◌&&◌, not, cond, List, [], ◌∷◌, ℕ, ◌+◌, ◌%◌, ◌^◌, eqb, ltb, length}
-use Rattle.std.proofs.Math.Option.{Option, none, some}
+use mathlib.Core.Option.{Option, none, some}
 use Rattle.matching.specs.Refusals.{first_bad}
 use Rattle.matching.specs.Entry.{bad_entry_argument}
 use Rattle.matching.specs.Request.{bad_request_argument, arrival_of, accepted, offset_used, verdict_on, ack_asked, ack_given}

@@ -1,7 +1,7 @@
 -- Document 01's book, here called the ledger: "The book hears arguments and answers only and starts empty." It is a fold over steps,
 -- and by its type it cannot see a target.
 use Rattle.std.specs.Prelude.{Bool, true, false, ◌||◌, cond, List, [], ◌∷◌, ◌++◌, map, ℕ, eqb, ltb, length, take, drop, set, get_or, replicate}
-use Rattle.std.proofs.Math.Option.{Option, none, some}
+use mathlib.Core.Option.{Option, none, some}
 use Rattle.matching.specs.Request.{arrival_of, accepted, local_after, unlinks}
 use Rattle.matching.specs.EarlyMessages.{takes_headers}
 use Rattle.matching.specs.Counters.{comm_amount, overflow_amount}

@@ -1,6 +1,6 @@
 -- A pass over the entries that looks for the one that is linked with a handle.
 use Rattle.std.specs.Prelude.{◌≡◌, Bool, true, ◌&&◌, ◌||◌, not, cond, ℕ, ◌+◌, ◌-◌, ◌%◌, ◌<◌, drop}
-use Rattle.std.proofs.Math.Option.{some}
+use mathlib.Core.Option.{some}
 use Rattle.state.specs.Sizes.{SLOTS}
 use Rattle.state.specs.Lists.{first_from, place_or}
 use Rattle.state.specs.View.{entries_of, is_linked_as}

@@ -1,6 +1,6 @@
 -- A pass over the entries of a target that looks for the entry that a request chooses. No promise of a call cites these.
 use Rattle.std.specs.Prelude.{◌≡◌, Bool, true, ◌&&◌, ◌||◌, not, cond, List, ℕ, ◌+◌, ◌-◌, ◌%◌, ◌≤◌, ◌<◌, eqb, ltb, length, drop, get_or}
-use Rattle.std.proofs.Math.Option.{Option, some}
+use mathlib.Core.Option.{Option, some}
 use Rattle.matching.specs.Request.{arrival_of, matches, verdict_on}
 use Rattle.matching.specs.EarlyMessages.{takes_headers}
 use Rattle.state.specs.Sizes.{SLOTS, HEADERS}

@@ -1,6 +1,6 @@
 -- Document 01, "Events", its last paragraph: the calls on counting events and status registers.
 use Rattle.std.specs.Prelude.{Bool, ◌||◌, not, cond, List, [], ◌∷◌, ℕ, suc, eqb, leb, length, set}
-use Rattle.std.proofs.Math.Option.{Option, none, some}
+use mathlib.Core.Option.{Option, none, some}
 use Rattle.matching.specs.Refusals.{first_bad}
 use Rattle.matching.specs.Entry.{is_counter}
 use Rattle.matching.specs.declared.refusals.BadArgument.{BadArgument}

@@ -2,13 +2,14 @@ use Rattle.std.proofs.Common.{◌≡◌, ◌+◌, List, take, set, get_or, refl,
 use mathlib.Core.Bool.{false≢true}
 use Rattle.state.specs.View.{entries_of, zero_entry}
 use Rattle.state.specs.Counters.{counter_at}
+use Rattle.state.specs.declared.layout.Counter.{Counter}
 use Rattle.state.specs.declared.layout.HeldEntry.{HeldEntry}
 use Rattle.state.specs.declared.layout.Target.{Target}
 use Rattle.state.proofs.SlotLaws.{closing-more, closed}
 use Rattle.inplace.specs.Patch.{stored_at, counter_stored, unexpected_patched, queue_patched, counters_patched}
 use Rattle.inplace.specs.declared.patch.Patch.{Patch}
 use Rattle.inplace.proofs.commit.commit.Goals as goal
-use Rattle.inplace.proofs.commit.commit.Goals.{then-p, else-p, then-p-2, else-p-2, then-p-3, else-p-3, then-p-4, else-p-4, then-p-5, else-p-5}
+use Rattle.inplace.proofs.commit.commit.Goals.{Joined-p-5, then-p, else-p, then-p-2, else-p-2, then-p-3, else-p-3, then-p-4, else-p-4, then-p-5, else-p-5}
 
 -- ## The target after each of the five slots that may be stored
 
@@ -37,7 +38,46 @@ module _ (t : Target) (p : Patch) where
   abbrev counter_set : Target
   counter_set = record second_stored { queue = queue_patched p.queue t.queue; counters = counters_patched p.counter t.counters }
 
+-- the numbers of the queue, and a counter in its slot
+abbrev counter_put : Patch → Counter → Target → Target
+counter_put p counter t = record t {
+  queue = record { slots = t.queue.slots; head = p.queue.head; count = p.queue.count; lost = p.queue.lost };
+  counters = record { slots = set t.counters.slots p.counter.at counter };
+}
+
 -- ## The answers
+
+-- what the target is once all five were seen to, by the branch that each took
+stored : (c : Joined-p-5) → c.if-p-5.t ≡ counter_set c.args.t.now c.args.p
+stored c =
+    let t = c.args.t.now in
+    let p = c.args.p in
+    let e1 : c.if-p.t ≡ entry_stored t p = elim c.if-p.branch [
+      | then-p w ↦ rw w.if-p.true w.t-is
+      | else-p w ↦ rw w.if-p.false w.t-is
+    ] in
+    let e2 : c.if-p-2.t ≡ header_stored t p = elim c.if-p-2.branch [
+      | then-p-2 w ↦ rw w.if-p-2.true (rw e1 at w.t-is)
+      | else-p-2 w ↦ rw w.if-p-2.false (rw e1 at w.t-is)
+    ] in
+    let e3 : c.if-p-3.t ≡ first_stored t p = elim c.if-p-3.branch [
+      | then-p-3 w ↦ rw w.if-p-3.true (rw e2 at w.t-is)
+      | else-p-3 w ↦ rw w.if-p-3.false (rw e2 at w.t-is)
+    ] in
+    let e4 : c.if-p-4.t ≡ second_stored t p = elim c.if-p-4.branch [
+      | then-p-4 w ↦ rw w.if-p-4.true (rw e3 at w.t-is)
+      | else-p-4 w ↦ rw w.if-p-4.false (rw e3 at w.t-is)
+    ] in
+    elim c.if-p-5.branch [
+      | then-p-5 w ↦
+          let k = w.counter_stored-counter in
+          let kept = ap (λ (u : Target). counter_stored p.counter (counter_at u.counters.slots p.counter.at)) e4 in
+          let is : k.result ≡ counter_stored p.counter (counter_at t.counters.slots p.counter.at) = k.ensures ∙ kept in
+          let after = counter_put p k.result in
+          let now : c.if-p-5.t ≡ after c.if-p-4.t = w.t-is in
+          now ∙ ap after e4 ∙ rw (is, w.if-p-5.true) refl
+      | else-p-5 w ↦ rw w.if-p-5.false (rw e4 at w.t-is)
+    ]
 
 pub loop-i-preserved : goal.loop-i-preserved
 loop-i-preserved c =
@@ -51,64 +91,36 @@ pub returns-after-loop-i : goal.returns-after-loop-i
 returns-after-loop-i c =
     let t = c.args.t.now in
     let p = c.args.p in
-    let e1 : c.if-p.t ≡ entry_stored t p = elim c.if-p.branch [ then-p w ↦ rw w.if-p.true w.t-is | else-p w ↦ rw w.if-p.false w.t-is ] in
-    let e2 : c.if-p-2.t ≡ header_stored t p = elim c.if-p-2.branch [ then-p-2 w ↦ rw w.if-p-2.true (rw e1 at w.t-is) | else-p-2 w ↦ rw w.if-p-2.false (rw e1 at w.t-is) ] in
-    let e3 : c.if-p-3.t ≡ first_stored t p = elim c.if-p-3.branch [ then-p-3 w ↦ rw w.if-p-3.true (rw e2 at w.t-is) | else-p-3 w ↦ rw w.if-p-3.false (rw e2 at w.t-is) ] in
-    let e4 : c.if-p-4.t ≡ second_stored t p = elim c.if-p-4.branch [ then-p-4 w ↦ rw w.if-p-4.true (rw e3 at w.t-is) | else-p-4 w ↦ rw w.if-p-4.false (rw e3 at w.t-is) ] in
-    let e5 : c.if-p-5.t ≡ counter_set t p = elim c.if-p-5.branch [
-      | then-p-5 w ↦
-          let kept = ap (λ (u : Target). counter_stored p.counter (counter_at u.counters.slots p.counter.at)) e4 in
-          let is : w.counter_stored-counter.result ≡ counter_stored p.counter (counter_at t.counters.slots p.counter.at) = w.counter_stored-counter.ensures ∙ kept in
-          let counters : Target → Target = λ u. record u { queue = record { slots = u.queue.slots; head = p.queue.head; count = p.queue.count; lost = p.queue.lost }; counters = record { slots = set u.counters.slots p.counter.at w.counter_stored-counter.result } } in
-          let now_so : c.if-p-5.t ≡ counters c.if-p-4.t = w.t-is in
-          let set_so : c.if-p-5.t ≡ counters (second_stored t p) = now_so ∙ ap counters e4 in
-          set_so ∙ rw (is, w.if-p-5.true) refl
-      | else-p-5 w ↦ rw w.if-p-5.false (rw e4 at w.t-is)
-    ] in
+    let e = stored (goal.at.returns-after-loop-i c).Joined-p-5 in
     let l = c.loop-i in
     let g = c.requires.goes c.if-p-6.true in
-    let as-were : take p.entry.count c.if-p-5.t.entries.slots ≡ entries_of t.entries = rw (e5, g.3, g.2) in
+    let as-were : take p.entry.count c.if-p-5.t.entries.slots ≡ entries_of t.entries = rw (e, g.3, g.2) in
     let is : l.t ≡ record c.if-p-5.t { entries = record c.if-p-5.t.entries { slots = l.t.entries.slots }; registers = p.registers } = l.invariant.1 in
     record {
-      size = ap (λ (u : Target). u.size) is ∙ ap (λ (u : Target). u.size) e5;
-      last = ap (λ (u : Target). u.last) is ∙ ap (λ (u : Target). u.last) e5;
+      size = ap (λ (u : Target). u.size) is ∙ ap (λ (u : Target). u.size) e;
+      last = ap (λ (u : Target). u.last) is ∙ ap (λ (u : Target). u.last) e;
       entries = record {
-        removed = λ e. rw (← as-were) (closed l.invariant.0 c.loop-i-test.false);
-        kept = λ e. absurd (false≢true (sym e ∙ c.if-p-6.true));
+        removed = λ goes. rw (← as-were) (closed l.invariant.0 c.loop-i-test.false);
+        kept = λ stays. absurd (false≢true (sym stays ∙ c.if-p-6.true));
       };
-      unexpected = ap (λ (u : Target). u.unexpected) is ∙ ap (λ (u : Target). u.unexpected) e5;
-      queue = ap (λ (u : Target). u.queue) is ∙ ap (λ (u : Target). u.queue) e5;
-      counters = ap (λ (u : Target). u.counters) is ∙ ap (λ (u : Target). u.counters) e5;
+      unexpected = ap (λ (u : Target). u.unexpected) is ∙ ap (λ (u : Target). u.unexpected) e;
+      queue = ap (λ (u : Target). u.queue) is ∙ ap (λ (u : Target). u.queue) e;
+      counters = ap (λ (u : Target). u.counters) is ∙ ap (λ (u : Target). u.counters) e;
       registers = ap (λ (u : Target). u.registers) is;
     }
 
 pub returns-else-p-6 : goal.returns-else-p-6
 returns-else-p-6 c =
-    let t = c.args.t.now in
-    let p = c.args.p in
-    let e1 : c.if-p.t ≡ entry_stored t p = elim c.if-p.branch [ then-p w ↦ rw w.if-p.true w.t-is | else-p w ↦ rw w.if-p.false w.t-is ] in
-    let e2 : c.if-p-2.t ≡ header_stored t p = elim c.if-p-2.branch [ then-p-2 w ↦ rw w.if-p-2.true (rw e1 at w.t-is) | else-p-2 w ↦ rw w.if-p-2.false (rw e1 at w.t-is) ] in
-    let e3 : c.if-p-3.t ≡ first_stored t p = elim c.if-p-3.branch [ then-p-3 w ↦ rw w.if-p-3.true (rw e2 at w.t-is) | else-p-3 w ↦ rw w.if-p-3.false (rw e2 at w.t-is) ] in
-    let e4 : c.if-p-4.t ≡ second_stored t p = elim c.if-p-4.branch [ then-p-4 w ↦ rw w.if-p-4.true (rw e3 at w.t-is) | else-p-4 w ↦ rw w.if-p-4.false (rw e3 at w.t-is) ] in
-    let e5 : c.if-p-5.t ≡ counter_set t p = elim c.if-p-5.branch [
-      | then-p-5 w ↦
-          let kept = ap (λ (u : Target). counter_stored p.counter (counter_at u.counters.slots p.counter.at)) e4 in
-          let is : w.counter_stored-counter.result ≡ counter_stored p.counter (counter_at t.counters.slots p.counter.at) = w.counter_stored-counter.ensures ∙ kept in
-          let counters : Target → Target = λ u. record u { queue = record { slots = u.queue.slots; head = p.queue.head; count = p.queue.count; lost = p.queue.lost }; counters = record { slots = set u.counters.slots p.counter.at w.counter_stored-counter.result } } in
-          let now_so : c.if-p-5.t ≡ counters c.if-p-4.t = w.t-is in
-          let set_so : c.if-p-5.t ≡ counters (second_stored t p) = now_so ∙ ap counters e4 in
-          set_so ∙ rw (is, w.if-p-5.true) refl
-      | else-p-5 w ↦ rw w.if-p-5.false (rw e4 at w.t-is)
-    ] in
+    let e = stored (goal.at.returns-else-p-6 c).Joined-p-5 in
     record {
-      size = ap (λ (u : Target). u.size) e5;
-      last = ap (λ (u : Target). u.last) e5;
+      size = ap (λ (u : Target). u.size) e;
+      last = ap (λ (u : Target). u.last) e;
       entries = record {
-        removed = λ e. absurd (false≢true (sym c.if-p-6.false ∙ e));
-        kept = λ e. ap (λ (u : Target). u.entries) e5;
+        removed = λ goes. absurd (false≢true (sym c.if-p-6.false ∙ goes));
+        kept = λ stays. ap (λ (u : Target). u.entries) e;
       };
-      unexpected = ap (λ (u : Target). u.unexpected) e5;
-      queue = ap (λ (u : Target). u.queue) e5;
-      counters = ap (λ (u : Target). u.counters) e5;
+      unexpected = ap (λ (u : Target). u.unexpected) e;
+      queue = ap (λ (u : Target). u.queue) e;
+      counters = ap (λ (u : Target). u.counters) e;
       registers = refl;
     }

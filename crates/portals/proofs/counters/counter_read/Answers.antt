@@ -4,4 +4,7 @@ use Rattle.portals.proofs.PartCalls.{read-counter-met}
 use Rattle.portals.proofs.counters.counter_read.Goals as goal
 
 pub returns : goal.returns
-returns c = read-counter-met c.args.t _ (bad_counter_argument c.args.k) c.args.a c.requires c.args.k c.counter_at-c.result refl c.counter_at-c.ensures c.answer_counter.ensures
+returns c =
+    let a = c.args in
+    let value = c.counter_at-c in
+    read-counter-met a.t _ (bad_counter_argument a.k) a.a c.requires a.k value.result refl value.ensures c.answer_counter.ensures

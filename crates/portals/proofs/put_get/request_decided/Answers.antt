@@ -9,7 +9,7 @@ pub returns-then-size-t : goal.returns-then-size-t
 returns-then-size-t c =
     memory-decided c.args.t c.args.size c.args.q c.args.kind c.args.requested
     (sym c.sound.ensures.answer ∙ c.if-not-sound.false)
-    c.if-size-t.true
+    (λ same. omega (arith, same))
 
 pub returns-then-not-none_bad : goal.returns-then-not-none_bad
 returns-then-not-none_bad c =

@@ -4,4 +4,7 @@ use Rattle.portals.proofs.PartCalls.{read-register-met}
 use Rattle.portals.proofs.registers.register_read.Goals as goal
 
 pub returns : goal.returns
-returns c = read-register-met c.args.t _ (bad_register_argument c.args.k) c.args.a c.requires c.args.k c.register_at-value.result refl c.register_at-value.ensures c.answer_register.ensures
+returns c =
+    let a = c.args in
+    let value = c.register_at-value in
+    read-register-met a.t _ (bad_register_argument a.k) a.a c.requires a.k value.result refl value.ensures c.answer_register.ensures

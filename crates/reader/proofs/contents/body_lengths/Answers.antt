@@ -4,7 +4,10 @@ use Rattle.reader.proofs.ContentsLaws.{lengths-turn, lengths-end}
 use Rattle.reader.proofs.contents.body_lengths.Goals as goal
 
 pub loop-i-preserved : goal.loop-i-preserved
-loop-i-preserved c = (omega arith, (omega arith, lengths-turn c.args.s.now c.args.count c.loop-i.i c.loop-i.sum c.loop-i.invariant.1.1 _ (search rules) c.line_at-l.ensures))
+loop-i-preserved c =
+    let l = c.loop-i in
+    let turn = lengths-turn c.args.s.now c.args.count l.i l.sum l.invariant.1.1 _ (search rules) c.line_at-l.ensures in
+    (omega arith, (omega arith, turn))
 
 pub returns : goal.returns
 returns c =

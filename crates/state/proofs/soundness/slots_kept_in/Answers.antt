@@ -8,10 +8,13 @@ use Rattle.state.proofs.soundness.slots_kept_in.Goals as goal
 
 pub loop-left-init : goal.loop-left-init
 loop-left-init c =
-    let x = get_or c.args.es.slots c.entries.i zero_entry in
-    let e = slot-by (headers_of c.args.us) x c.if-x-eq0.false in (
-      around (waits_in x) c.requires.unexpected_fit c.entries.invariant.0,
-      c.entries.invariant.1 ∙ every-turn c.args.es.slots c.args.es.count c.requires.entries_fit (keeps_slot (headers_of c.args.us)) c.entries.i zero_entry (search rules) ∙ rw e,
+    let es = c.args.es in
+    let us = headers_of c.args.us in
+    let o = c.entries in
+    let x = get_or es.slots o.i zero_entry in
+    let e = slot-by us x c.if-x-eq0.false in (
+      around (waits_in x) c.requires.unexpected_fit o.invariant.0,
+      o.invariant.1 ∙ every-turn es.slots es.count c.requires.entries_fit (keeps_slot us) o.i zero_entry (search rules) ∙ rw e,
     )
 
 pub entries-preserved : goal.entries-preserved
