@@ -2,7 +2,7 @@
 use mathlib.Core.Path.{◌≡◌, refl, ap, sym, ◌∙◌, subst}
 use mathlib.Core.Bool.{false, cond}
 use mathlib.Core.List.{List, [], ◌∷◌, append-nil}
-use mathlib.Core.Option.{Option, none, some}
+use Rattle.std.specs.Prelude.{Option, None, Some}
 use Prim.Native.Nat.{ℕ}
 use lib.ListN.{length, set}
 use Rattle.state.specs.View.{View}
@@ -64,8 +64,8 @@ module _ (b : Ledger) (v : View) (m : List ℕ) (r : Related b v m) where
       read_kept (calls.poll ks tests) (good_arguments (bad_poll_argument ks tests) ∷ []) (reached_answer place) (reached place) refl
     where
       reached : (o : Option ℕ) → Plain (reached_answer o)
-      reached none = record { event = refl; handle = refl; unregistered = refl }
-      reached (some i) = record { event = refl; handle = refl; unregistered = refl }
+      reached None = record { event = refl; handle = refl; unregistered = refl }
+      reached (Some i) = record { event = refl; handle = refl; unregistered = refl }
 
   -- a counter changes
   counter-kept : (c : Call) (k : ℕ) (f : Counter → Counter) → call_effect b.linked c DONE ≡ change k f

@@ -2,7 +2,7 @@
 use mathlib.Core.Path.{◌≡◌, refl, ap, sym, ◌∙◌, subst}
 use mathlib.Core.Bool.{Bool, true, false, ◌&&◌, not, cond, true≢false}
 use mathlib.Core.List.{List, [], ◌∷◌, ◌++◌}
-use mathlib.Core.Option.{Option, none, some}
+use Rattle.std.specs.Prelude.{Option, None, Some}
 use Prim.Native.Nat.{ℕ, zero, suc, ◌+◌, ◌≤◌, ◌<◌}
 use native.Mathlib.Omega.{arith}
 use borrow.Author.Tests.{not-true, eqb-true, eqb-false, eq-eqb, ne_eqb}
@@ -41,8 +41,8 @@ module _ {A : Type 0} (p q : A → Bool) (implies : (x : A) → p x ≡ true →
   -- what holds where none is found, and of every place where one is with the element there, holds of the first place and of the first
   -- of those selected; the list begins at place `from`
   first-selected : (d : A) (P : Option ℕ → Option A → Type 0) (from : ℕ) (l : List A)
-      → P none none
-      → ((at k : ℕ) → at ≡ from + k → Found p l d k → P (some at) (some (get_or l k d)))
+      → P None None
+      → ((at k : ℕ) → at ≡ from + k → Found p l d k → P (Some at) (Some (get_or l k d)))
       → P (first_from p from l) (first_of p (select q l))
   first-selected d P from [] without at = without
   first-selected d P from (x ∷ l) without at =
@@ -76,27 +76,27 @@ candidate-linked portal list a x e =
     let t = both (is_linked x && eqb x.entry.portal portal) (eqb x.entry.list list) s.0 in
     (both (is_linked x) (eqb x.entry.portal portal) t.0).0
 
-or-none : {A : Type 0} (o : Option A) → otherwise o none ≡ o
-or-none none = refl
-or-none (some x) = refl
+or-none : {A : Type 0} (o : Option A) → otherwise o None ≡ o
+or-none None = refl
+or-none (Some x) = refl
 
 module _ (entries : List HeldEntry) (portal : ℕ) (a : Arrival) where
   -- what the target's choice, a place, and the ledger's choice, an entry, have in common
   pub data ChosenAs : Choice → Option HeldEntry → Type 0 where
-    priority : (k : ℕ) → k < length entries → is_linked (entry_at entries k) ≡ true → ChosenAs (Choice.Priority k) (some (entry_at entries k))
-    overflow : (k : ℕ) → k < length entries → is_linked (entry_at entries k) ≡ true → ChosenAs (Choice.Overflow k) (some (entry_at entries k))
-    nothing : ChosenAs Choice.Nothing none
+    priority : (k : ℕ) → k < length entries → is_linked (entry_at entries k) ≡ true → ChosenAs (Choice.Priority k) (Some (entry_at entries k))
+    overflow : (k : ℕ) → k < length entries → is_linked (entry_at entries k) ≡ true → ChosenAs (Choice.Overflow k) (Some (entry_at entries k))
+    nothing : ChosenAs Choice.Nothing None
 
   -- in one list: where it has no candidate, it is up to another choice
   in_list : (list : ℕ) (choice : ℕ → Choice) (other : Choice) (it : Option HeldEntry)
-      → ((k : ℕ) → k < length entries → is_linked (entry_at entries k) ≡ true → ChosenAs (choice k) (some (entry_at entries k)))
+      → ((k : ℕ) → k < length entries → is_linked (entry_at entries k) ≡ true → ChosenAs (choice k) (Some (entry_at entries k)))
       → ChosenAs other it
       → ChosenAs (choices.or_else choice (first_from (is_candidate portal list a) 0 entries) other)
       (otherwise (first_of (is_candidate portal list a) (select is_linked entries)) it)
   in_list list choice other it at rest =
       first-selected (is_candidate portal list a) is_linked (candidate-linked portal list a) zero_entry
       (λ o c. ChosenAs (choices.or_else choice o other) (otherwise c it)) 0 entries rest
-      (λ n k e f. subst (λ (m : ℕ). ChosenAs (choice m) (some (entry_at entries k))) (let same : k ≡ n = omega arith in same)
+      (λ n k e f. subst (λ (m : ℕ). ChosenAs (choice m) (Some (entry_at entries k))) (let same : k ≡ n = omega arith in same)
       (at k f.inside (candidate-linked portal list a (entry_at entries k) f.passes)))
 
   pub chosen-as : ChosenAs (choose entries portal a) (chosen (select is_linked entries) portal a)
@@ -104,7 +104,7 @@ module _ (entries : List HeldEntry) (portal : ℕ) (a : Arrival) where
   chosen-as =
       in_list 0 Choice.Priority _ _ priority
       (subst (ChosenAs _) (or-none (first_of (is_candidate portal 1 a) (select is_linked entries)))
-      (in_list 1 Choice.Overflow Choice.Nothing none overflow nothing))
+      (in_list 1 Choice.Overflow Choice.Nothing None overflow nothing))
 
 -- ## The linked entries
 

@@ -14,7 +14,7 @@ use Rattle.matching.specs.declared.request.Kind.{Kind}
 use Rattle.matching.specs.declared.events.EventKind.{EventKind}
 use Rattle.state.specs.Sizes.{EVENTS}
 use Rattle.state.specs.Lists.{every, any, select}
-use Rattle.state.specs.Kinds.{kind_of, event_number}
+use Rattle.matching.specs.Kinds.{kind_of, event_number}
 use Rattle.state.specs.View.{EventQueue, is_linked, has_handle}
 use Rattle.state.specs.Soundness.{distinct, names, waits_in, holds, lengths_kept, header_sound}
 use Rattle.state.specs.Events.{Issued, arrival_kind, overflow_kind, overflow_event, auto_free_event, auto_unlink_event, link_event, search_event, no_match_event, is_disabled, with_gap, gap_of, post_by, post, post_all, without_oldest}

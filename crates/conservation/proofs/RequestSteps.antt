@@ -2,7 +2,7 @@
 use mathlib.Core.Path.{◌≡◌, refl, ap, sym, ◌∙◌, subst}
 use mathlib.Core.Bool.{Bool, true, false, ◌||◌, not, cond}
 use mathlib.Core.List.{List, [], ◌∷◌, ◌++◌}
-use mathlib.Core.Option.{Option, none, some}
+use Rattle.std.specs.Prelude.{Option, None, Some}
 use Prim.Native.Nat.{ℕ, zero, suc, ◌+◌, ◌<◌, ◌≤◌, ◌%◌, ◌^◌}
 use native.Mathlib.Omega.{arith}
 use borrow.Author.Tests.{eq-eqb}
@@ -158,14 +158,14 @@ module _ (b : Ledger) (v : View) (m : List ℕ) (r : Related b v m) (c : Call) (
   }
 
   -- by the ledger's choice
-  dropped-by : chosen b.linked q.portal a ≡ none → Serves Decision.Drop
+  dropped-by : chosen b.linked q.portal a ≡ None → Serves Decision.Drop
   dropped-by none-chosen =
       denied Decision.Drop (DROPPED (ack_asked kind q.ack)) _ drops refl refl refl
       (dropped-counted v.registers b.heard r.registers (ack_asked kind q.ack))
       (ap (answer_on b a q.ack) (sym none-chosen))
 
   module _ (k : ℕ) (inside : k < length v.entries) (linked : is_linked (entry_at v.entries k) ≡ true)
-      (is : chosen b.linked q.portal a ≡ some (entry_at v.entries k)) where
+      (is : chosen b.linked q.portal a ≡ Some (entry_at v.entries k)) where
     abbrev x : HeldEntry
     x = entry_at v.entries k
 

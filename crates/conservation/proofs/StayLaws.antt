@@ -3,7 +3,7 @@ use mathlib.Core.Path.{◌≡◌, refl, ap, sym, ◌∙◌, subst}
 use mathlib.Core.Bool.{Bool, true, false, ◌&&◌, ◌||◌, not, cond, false≢true}
 use mathlib.Core.List.{List, [], ◌∷◌, ◌++◌, append_cancel_left, nil≢cons, head-eq_of_cons-eq}
 use mathlib.Core.Logic.{inl}
-use mathlib.Core.Option.{Option, none, some}
+use Rattle.std.specs.Prelude.{Option, None, Some}
 use Prim.Native.Nat.{ℕ, ◌+◌, ◌≤◌}
 use native.Mathlib.Omega.{arith}
 use native.Mathlib.Decide.{ℕ_discrete}
@@ -86,21 +86,21 @@ module _ {A : Type 0} where
 
   -- what was found, if anything was, is an element of the list
   abbrev Among : List A → Option A → Type 0
-  Among l none = Unit
-  Among l (some y) = In y l
+  Among l None = Unit
+  Among l (Some y) = In y l
 
   among-more : (x : A) (l : List A) (o : Option A) → Among l o → Among (x ∷ l) o
-  among-more x l none i = tt
-  among-more x l (some y) i = there i
+  among-more x l None i = tt
+  among-more x l (Some y) i = there i
 
   first-among : (p : A → Bool) (l : List A) → Among l (first_of p l)
   first-among p [] = tt
   first-among p (x ∷ l) =
-      cond_cases (Among (x ∷ l)) (p x) (some x) (first_of p l) (λ e. here) (λ e. among-more x l (first_of p l) (first-among p l))
+      cond_cases (Among (x ∷ l)) (p x) (Some x) (first_of p l) (λ e. here) (λ e. among-more x l (first_of p l) (first-among p l))
 
   else-among : (l : List A) (o other : Option A) → Among l o → Among l other → Among l (otherwise o other)
-  else-among l none other i j = j
-  else-among l (some y) other i j = i
+  else-among l None other i j = j
+  else-among l (Some y) other i j = i
 
 -- rule 3 chooses one of the entries
 chosen-among : (l : List HeldEntry) (portal : ℕ) (a : Arrival) → Among l (chosen l portal a)
@@ -144,8 +144,8 @@ module _ (size : ℕ) (b : Ledger) (answer : Answer) (P : Effect → Type 0) (no
     (held : (e : Entry) → P (taken e)) (removed : (handle : ℕ) → P (remove handle))
     (looked : (e : Entry) → P (look e)) (deleted : (e : Entry) → P (delete e)) (changed : (k : ℕ) (f : Counter → Counter) → P (change k f)) where
   delivery-cases : (portal : ℕ) (a : Arrival) (payload : List ℕ) (o : Option HeldEntry) → Among b.linked o → P (delivery_to portal a payload o)
-  delivery-cases portal a payload none i = no-effect
-  delivery-cases portal a payload (some y) i = delivered portal a payload y i
+  delivery-cases portal a payload None i = no-effect
+  delivery-cases portal a payload (Some y) i = delivered portal a payload y i
 
   request-cases : (portal : ℕ) (a : Arrival) (payload : List ℕ) → P (request_effect b.linked portal a payload answer)
   request-cases portal a payload =

@@ -1,6 +1,6 @@
 -- What the ledger says of the answer of each call: its refusals, and what it answers if it is not refused.
 use Rattle.std.specs.Prelude.{◌≡◌, Bool, true, false, ◌||◌, ◌&&◌, not, cond, List, [], ◌∷◌, ℕ, ◌+◌, ◌%◌, ◌^◌, eqb, ltb, length}
-use mathlib.Core.Option.{Option, none, some}
+use Rattle.std.specs.Prelude.{Option, None, Some}
 use Rattle.matching.specs.Refusals.{first_bad}
 use Rattle.matching.specs.Entry.{bad_entry_argument}
 use Rattle.matching.specs.Request.{bad_request_argument, arrival_of, accepted, offset_used, verdict_on, ack_asked, ack_given}
@@ -89,8 +89,8 @@ abbrev pub room_for : Ledger → HeldEntry → Bool
 room_for b x = not (takes_headers x.entry) || ltb (length b.waiting) HEADERS
 
 abbrev pub answer_on : Ledger → Arrival → ℕ → Option HeldEntry → Answer
-answer_on b a ack none = DROPPED (ack_asked a.kind ack)
-answer_on b a ack (some x) = answer_of x a ack (verdict_on x.entry a) (room_for b x)
+answer_on b a ack None = DROPPED (ack_asked a.kind ack)
+answer_on b a ack (Some x) = answer_of x a ack (verdict_on x.entry a) (room_for b x)
 
 abbrev pub expected_of_request : Ledger → Request → Arrival → Answer
 expected_of_request b q a = answer_on b a q.ack (chosen b.linked q.portal a)

@@ -2,7 +2,7 @@
 use Rattle.std.specs.Prelude.{◌≡◌, Bool, true, ◌||◌, ◌&&◌, cond, List, [], ◌∷◌, ◌++◌, map, ℕ, ◌+◌, ◌≤◌, eqb, ltb, length}
 use Rattle.matching.specs.declared.events.EventKind.TheVariants as EventKind
 use Rattle.state.specs.Lists.{select}
-use Rattle.state.specs.Kinds.{event_number}
+use Rattle.matching.specs.Kinds.{event_number}
 use Rattle.state.specs.View.{view_of, is_linked, has_handle}
 use Rattle.state.specs.Soundness.{is_sound}
 use Rattle.state.specs.Registers.{register_at}

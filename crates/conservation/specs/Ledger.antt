@@ -1,7 +1,7 @@
 -- Document 01's book, here called the ledger: "The book hears arguments and answers only and starts empty." It is a fold over steps,
 -- and by its type it cannot see a target.
 use Rattle.std.specs.Prelude.{Bool, true, false, ◌||◌, cond, List, [], ◌∷◌, ◌++◌, map, ℕ, eqb, ltb, length, take, drop, set, get_or, replicate}
-use mathlib.Core.Option.{Option, none, some}
+use Rattle.std.specs.Prelude.{Option, None, Some}
 use Rattle.matching.specs.Request.{arrival_of, accepted, local_after, unlinks}
 use Rattle.matching.specs.EarlyMessages.{takes_headers}
 use Rattle.matching.specs.Counters.{comm_amount, overflow_amount}
@@ -103,20 +103,20 @@ pub data Effect : Type 0 where
 
 module _ {A : Type 0} where
   abbrev pub first_of : (A → Bool) → List A → Option A
-  first_of p [] = none
-  first_of p (x ∷ l) = cond (p x) (some x) (first_of p l)
+  first_of p [] = None
+  first_of p (x ∷ l) = cond (p x) (Some x) (first_of p l)
 
   abbrev pub otherwise : Option A → Option A → Option A
-  otherwise none other = other
-  otherwise (some x) other = some x
+  otherwise None other = other
+  otherwise (Some x) other = Some x
 
 -- rule 3: "The first matching entry of the priority list is chosen; if there is none, the first of the overflow list."
 unfoldable pub chosen : List HeldEntry → ℕ → Arrival → Option HeldEntry
 chosen linked portal a = otherwise (first_of (is_candidate portal 0 a) linked) (first_of (is_candidate portal 1 a) linked)
 
 abbrev pub delivery_to : ℕ → Arrival → List ℕ → Option HeldEntry → Effect
-delivery_to portal a payload none = nothing
-delivery_to portal a payload (some x) = delivery portal a payload x
+delivery_to portal a payload None = nothing
+delivery_to portal a payload (Some x) = delivery portal a payload x
 
 -- "At PRIORITY or OVERFLOW rules 1 to 3 and 5 to 7 run on the book"
 abbrev pub request_effect : List HeldEntry → ℕ → Arrival → List ℕ → Answer → Effect

@@ -1,7 +1,7 @@
 -- The pass that looks for a handle: how it begins, a turn, and what it has found when every entry has been seen.
 use mathlib.Core.Path.{◌≡◌, refl, ◌∙◌}
 use mathlib.Core.Bool.{Bool, true, false, ◌&&◌, ◌||◌, not, cond, false≢true}
-use mathlib.Core.Option.{Option, some}
+use Rattle.std.specs.Prelude.{Option, Some}
 use Prim.Native.Nat.{ℕ, ◌+◌, ◌≤◌, ◌<◌}
 use native.Mathlib.Omega.{arith}
 use native.Mathlib.Nat.{mod-eq_of_lt}
@@ -27,8 +27,8 @@ module _ (es : Entries) (handle i place : ℕ) (fits : EntriesFit es) (inside : 
   x = get_or es.slots i zero_entry
 
   sought-more : (found linked : Bool) → is_linked_as handle x ≡ linked → (all : Option ℕ)
-      → all ≡ cond found (some place) (first i)
-      → all ≡ cond (found || (not found && linked)) (some (cond (not found && linked) i place)) (first (i + 1))
+      → all ≡ cond found (Some place) (first i)
+      → all ≡ cond (found || (not found && linked)) (Some (cond (not found && linked) i place)) (first (i + 1))
   sought-more true linked is all e = e
   sought-more false true is all e =
       e ∙ first-hit (is_linked_as handle) (entries_of es) i zero_entry (rw (in_use fits) inside) (rw (get_or-take es.count es.slots i zero_entry inside) is)

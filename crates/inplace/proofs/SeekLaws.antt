@@ -2,7 +2,7 @@
 use mathlib.Core.Path.{◌≡◌, refl, sym, ◌∙◌}
 use mathlib.Core.Bool.{Bool, true, false, ◌&&◌, true≢false}
 use mathlib.Core.List.{List}
-use mathlib.Core.Option.{none}
+use Rattle.std.specs.Prelude.{None}
 use Prim.Native.Nat.{ℕ, zero, suc, ◌+◌, ◌%◌, ◌≤◌, ◌<◌}
 use native.Mathlib.Omega.{arith}
 use native.Mathlib.Nat.{mod-eq_of_lt}
@@ -154,7 +154,7 @@ seek-turn t x s f more = (next-inside t s.scan s.at s.left f.pass more, seeking-
 -- the lists before this one have no candidate
 trying-at : (entries : List HeldEntry) (portal : ℕ) (a : Arrival) (list : ℕ)
     → list ≤ 2
-    → ((l : ℕ) → l < list → first_from (is_candidate portal l a) 0 entries ≡ none)
+    → ((l : ℕ) → l < list → first_from (is_candidate portal l a) 0 entries ≡ None)
     → Trying entries portal a list
 trying-at entries portal a zero h e = trying entries portal a
 trying-at entries portal a (suc list) h e =
@@ -181,11 +181,11 @@ module _ (t : Target) (x : Asked) (s : Seek) (v : HeldEntry) (end : Sought t x s
       (λ l h. found-best.ahead l h ∙ first_past (is_candidate s.portal l s.arrival) (entries_of t.entries) s.at all_seen)
 
   -- where an entry was found
-  module _ (some : s.list ≡ 2 → ⊥) where
+  module _ (Some : s.list ≡ 2 → ⊥) where
     one_found : s.list < 2
     one_found =
         let within : s.list ≤ 2 = found-best.within in
-        omega (arith, some)
+        omega (arith, Some)
 
     -- it is the one that stands at the best place
     best-entry : v ≡ entry_at (entries_of t.entries) s.place

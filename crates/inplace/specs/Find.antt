@@ -1,6 +1,6 @@
 -- A pass over the entries that looks for the one that is linked with a handle.
 use Rattle.std.specs.Prelude.{◌≡◌, Bool, true, ◌&&◌, ◌||◌, not, cond, ℕ, ◌+◌, ◌-◌, ◌%◌, ◌<◌, drop}
-use mathlib.Core.Option.{some}
+use Rattle.std.specs.Prelude.{Some}
 use Rattle.state.specs.Sizes.{SLOTS}
 use Rattle.state.specs.Lists.{first_from, place_or}
 use Rattle.state.specs.View.{entries_of, is_linked_as}
@@ -34,7 +34,7 @@ pub record Finding (t : Target) (handle : ℕ) (s : Find) : Type 0 where
   pub same : s.handle ≡ handle
   pub sought : s.scan.kept ≡ true
       → first_from (is_linked_as handle) 0 (entries_of t.entries)
-      ≡ cond s.found (some s.place) (first_from (is_linked_as handle) s.at (drop s.at (entries_of t.entries)))
+      ≡ cond s.found (Some s.place) (first_from (is_linked_as handle) s.at (drop s.at (entries_of t.entries)))
   pub inside : s.found ≡ true → s.place < t.entries.count
 
 -- the unlink is admitted as its tests say, and the place is its entry's

@@ -1,6 +1,6 @@
 -- A pass over the entries of a target that looks for the entry that a request chooses. No promise of a call cites these.
 use Rattle.std.specs.Prelude.{◌≡◌, Bool, true, ◌&&◌, ◌||◌, not, cond, List, ℕ, ◌+◌, ◌-◌, ◌%◌, ◌≤◌, ◌<◌, eqb, ltb, length, drop, get_or}
-use mathlib.Core.Option.{Option, some}
+use Rattle.std.specs.Prelude.{Option, Some}
 use Rattle.matching.specs.Request.{arrival_of, matches, verdict_on}
 use Rattle.matching.specs.EarlyMessages.{takes_headers}
 use Rattle.state.specs.Sizes.{SLOTS, HEADERS}
@@ -49,7 +49,7 @@ first_in s entries list i = first_from (is_candidate s.portal list s.arrival) i 
 
 -- the best is an entry: the first candidate in its list
 pub record Best (entries : List HeldEntry) (s : Seek) : Type 0 where
-  pub first : first_in s entries s.list 0 ≡ some s.place
+  pub first : first_in s entries s.list 0 ≡ Some s.place
   pub inside : s.place < length entries
 
 -- of a pass that has seen the entries before s.at: the lists before the best one's have no candidate there

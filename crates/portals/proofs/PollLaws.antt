@@ -2,7 +2,7 @@
 use mathlib.Core.Path.{◌≡◌}
 use mathlib.Core.Bool.{true, false}
 use mathlib.Core.List.{List}
-use mathlib.Core.Option.{none, some}
+use Rattle.std.specs.Prelude.{None, Some}
 use Prim.Native.Nat.{ℕ, ◌+◌, ◌≤◌, ◌<◌}
 use native.Mathlib.Numerals.{add-one}
 use borrow.Author.Tests.{lt-ltb, le-ltb, le-leb, lt-leb}
@@ -36,7 +36,7 @@ module _ (counters : List Counter) (ks tests : List ℕ) (i : ℕ) where
   -- it is i
   pub reached-here : i < length ks → i < length tests
       → get_or tests i 0 ≤ (counter_at counters (get_or ks i 0)).success
-      → reached_from counters i (drop i ks) (drop i tests) ≡ some i
+      → reached_from counters i (drop i ks) (drop i tests) ≡ Some i
   reached-here h k e = rw (drop-cons ks i 0, drop-cons tests i 0, le-leb _ _ e)
 
   -- it is among those after i
@@ -46,5 +46,5 @@ module _ (counters : List Counter) (ks tests : List ℕ) (i : ℕ) where
   reached-later h k e = rw (add-one, drop-cons ks i 0, drop-cons tests i 0, lt-leb _ _ e)
 
   -- no place is left
-  pub reached-none : length ks ≤ i → reached_from counters i (drop i ks) (drop i tests) ≡ none
+  pub reached-none : length ks ≤ i → reached_from counters i (drop i ks) (drop i tests) ≡ None
   reached-none h = rw (drop_of_length-le ks h)

@@ -1,6 +1,6 @@
 -- Document 01, "Events", its last paragraph: the calls on counting events and status registers.
 use Rattle.std.specs.Prelude.{Bool, ◌||◌, not, cond, List, [], ◌∷◌, ℕ, suc, eqb, leb, length, set}
-use mathlib.Core.Option.{Option, none, some}
+use Rattle.std.specs.Prelude.{Option, None, Some}
 use Rattle.matching.specs.Refusals.{first_bad}
 use Rattle.matching.specs.Entry.{is_counter}
 use Rattle.matching.specs.declared.refusals.BadArgument.{BadArgument}
@@ -69,15 +69,15 @@ bad_poll_argument ks tests =
 
 -- "the lowest place whose success has reached its test": decision 5; the lists begin at place i
 abbrev pub reached_from : List Counter → ℕ → List ℕ → List ℕ → Option ℕ
-reached_from counters i [] tests = none
-reached_from counters i (k ∷ ks) [] = none
+reached_from counters i [] tests = None
+reached_from counters i (k ∷ ks) [] = None
 reached_from counters i (k ∷ ks) (test ∷ tests) =
-    cond (has_reached (counter_at counters k) test) (some i) (reached_from counters (suc i) ks tests)
+    cond (has_reached (counter_at counters k) test) (Some i) (reached_from counters (suc i) ks tests)
 
 -- "or NONE_REACHED"
 abbrev pub reached_answer : Option ℕ → Answer
-reached_answer none = NONE_REACHED
-reached_answer (some i) = REACHED i
+reached_answer None = NONE_REACHED
+reached_answer (Some i) = REACHED i
 
 unfoldable pub poll : View → List ℕ → List ℕ → Answer
 poll v ks tests =

@@ -2,7 +2,7 @@
 use Prim.Native.Nat.{ℕ, ◌≤◌}
 use mathlib.Core.Path.{◌≡◌, refl, sym}
 use mathlib.Core.List.{List, [], ◌∷◌, ◌++◌, append_assoc}
-use Rattle.state.specs.Kinds.{event_kind, fail_type}
+use Rattle.matching.specs.Kinds.{event_kind, fail_type}
 use Rattle.state.specs.declared.layout.Event.{Event}
 use Rattle.portals.specs.Answers.{Answer, EVENT}
 use native.Mathlib.Omega.{arith}

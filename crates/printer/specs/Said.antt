@@ -3,7 +3,7 @@ use Rattle.std.specs.Prelude.{ℕ, cond, List, [], ◌∷◌, ◌++◌, eqb, tak
 use Prim.Native.String.{String}
 use Rattle.matching.specs.declared.events.EventKind.{EventKind}
 use Rattle.matching.specs.declared.events.FailType.{FailType}
-use Rattle.state.specs.Kinds.{event_kind, fail_type}
+use Rattle.matching.specs.Kinds.{event_kind, fail_type}
 use Rattle.state.specs.declared.layout.Event.{Event}
 use Rattle.portals.specs.Answers.{Answer, REFUSED, MADE, LINKED, TAKEN, DONE, SEARCHED, PRIORITY, OVERFLOW, DROPPED, PERM, OP, EVENT, NONE, COUNTER, REGISTER, READY, NOT_READY, REACHED, NONE_REACHED}
 use Rattle.text.specs.Text.{bytes_of, decimal_of, fields_of, hex_of}

@@ -4,7 +4,7 @@ ghost use Rattle.text.specs.Text.{decimal_of, fields_of};
 ghost use Rattle.text.specs.Writing.{Wrote};
 ghost use Rattle.portals.specs.Answers.{refused, append_answer, plain_answer, search_answer, request_answer, event_answer, counter_answer, register_answer, EVENT};
 ghost use Rattle.printer.specs.Said.{SAID, said, kind_text, fail_text, event_source, event_message, shown_text, shown_of};
-ghost use Rattle.state.specs.Kinds.{event_kind, fail_type};
+ghost use Rattle.matching.specs.Kinds.{event_kind, fail_type};
 
 use matching::events::{EventKind, FailType};
 use matching::refusals::Refusal;
