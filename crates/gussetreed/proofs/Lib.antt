@@ -1,4 +1,2 @@
 pub mod Telling
 pub mod Promised
-pub mod StoredLaws
-pub mod AloneLaws

@@ -35,14 +35,14 @@ use Rattle.portals.specs.Making.{new as new-rule}
 use Rattle.portals.specs.EventRead.{read_event as read-event-rule}
 use Rattle.portals.specs.CounterCalls.{set_counter as set-counter-rule, increment as increment-rule, read_counter as read-counter-rule, read_register as read-register-rule, ready as ready-rule, poll as poll-rule}
 use Rattle.portals.specs.Request.{put as put-rule, get as get-rule}
+use Rattle.portals.specs.declared.answers.Done.{Done}
 use Rattle.portals.specs.EarlyMessages.{append as append-rule, unlink as unlink-rule, search as search-rule}
 use Rattle.conservation.specs.Runs.{Stepped, Ran, Line, line, line_elsewhere}
 use Rattle.conservation.specs.Conserved.{Conserved}
 use Rattle.host.proofs.Promised as host
 use Rattle.host.proofs.Promised.{promises}
 use Rattle.gussetreed.specs.declared.layout.Reply.{Reply}
-use Rattle.gussetreed.specs.declared.replied.Replied.{Replied}
-use Rattle.gussetreed.specs.declared.replied.EventReplied.{EventReplied}
+use Rattle.gussetreed.specs.declared.layout.EventReply.{EventReply}
 use Rattle.gussetreed.proofs.Telling.{by-definition, read-by-definition}
 use Rattle.gussetreed.specs.Replies.{reply_of, event_reply_of, NewTold, AppendTold, UnlinkTold, SearchTold, PutTold, GetTold, ReadEventTold, SetCounterTold, IncrementTold, ReadCounterTold, ReadRegisterTold, ReadyTold, PollTold}
 use Rattle.gussetreed.specs.contracts.calls.gussetreed_new as new
@@ -112,10 +112,10 @@ module _ {M : Type 1} {𝓤 : Ura M} (𝓛 : Logic 𝓤) (mem : Memory → SProp
 
 -- ## The reply is the answer of the definition
 
-pub new-replies : (s : Settings) (r : Replied) → NewTold s r → r.answer ≡ reply_of (new-rule s).answer
+pub new-replies : (s : Settings) (r : Done Reply) → NewTold s r → r.answer ≡ reply_of (new-rule s).answer
 new-replies s r h = h.told ∙ ap reply_of h.met.answer
 
-module _ (t : Target) (r : Replied) where
+module _ (t : Target) (r : Done Reply) where
   pub append-replies : (e : Entry) → AppendTold t e r → r.answer ≡ reply_of (unless_unsound (λ v. append-rule v e) (seen t) tt).answer
   append-replies e = by-definition reply_of append_answer
 
@@ -137,7 +137,7 @@ module _ (t : Target) (r : Replied) where
   pub increment-replies : (x : CounterChange) → IncrementTold t x r → r.answer ≡ reply_of (unless_unsound (λ v. increment-rule v x) (seen t) tt).answer
   increment-replies x = by-definition reply_of plain_answer
 
-pub read-event-replies : (t : Target) (r : EventReplied) → ReadEventTold t r → r.answer ≡ event_reply_of (unless_unsound read-event-rule (seen t) tt).answer
+pub read-event-replies : (t : Target) (r : Done EventReply) → ReadEventTold t r → r.answer ≡ event_reply_of (unless_unsound read-event-rule (seen t) tt).answer
 read-event-replies t r = by-definition event_reply_of event_answer
 
 module _ (t : Target) (r : Reply) where
@@ -155,7 +155,7 @@ module _ (t : Target) (r : Reply) where
 
 -- ## Each call is a step: t is lent, and r has the target that is left; m is the memory
 
-module _ {t : Target} {m : List ℕ} {r : Replied} where
+module _ {t : Target} {m : List ℕ} {r : Done Reply} where
   pub append-steps : {e : Entry} (h : AppendTold t e r) → Stepped t m (line m (Call.append e) (append_answer h.answer)) r.target m
   append-steps h = host.append-steps h.answer h.met
 
@@ -184,7 +184,7 @@ module _ {t : Target} {m : List ℕ} {r : Replied} where
   pub get-elsewhere-steps : (lent : List ℕ) (q : Request) {buffer buffer' : List ℕ} (h : GetTold t lent q buffer r buffer') → eqb (length lent) (length m) ≡ false → Stepped t m (line_elsewhere m lent (request_answer h.answer)) r.target m
   get-elsewhere-steps lent q h = host.get-elsewhere-steps lent q h.answer h.met
 
-pub read-event-steps : {t : Target} {m : List ℕ} {r : EventReplied} (h : ReadEventTold t r) → Stepped t m (line m Call.read_event (event_answer h.answer)) r.target m
+pub read-event-steps : {t : Target} {m : List ℕ} {r : Done EventReply} (h : ReadEventTold t r) → Stepped t m (line m Call.read_event (event_answer h.answer)) r.target m
 read-event-steps h = host.read-event-steps h.answer h.met
 
 -- a call that only reads leaves the target that it is lent
@@ -201,7 +201,7 @@ module _ {t : Target} {m : List ℕ} {r : Reply} where
   pub poll-steps : {ks tests : List ℕ} (h : PollTold t ks tests r) → Stepped t m (line m (Call.poll ks tests) (poll_answer h.answer)) t m
   poll-steps h = host.poll-steps h.answer h.met
 
-pub new-begins : (s : Settings) (r : Replied) (start : List ℕ) (log : List Line) (t' : Target) (m : List ℕ)
+pub new-begins : (s : Settings) (r : Done Reply) (start : List ℕ) (log : List Line) (t' : Target) (m : List ℕ)
     → NewTold s r
     → length start ≡ (view_of r.target).size
     → Ran r.target start log t' m

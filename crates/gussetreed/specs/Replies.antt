@@ -10,11 +10,10 @@ use Rattle.state.specs.declared.layout.Event.{Event}
 use Rattle.state.specs.declared.layout.Target.{Target}
 use Rattle.portals.specs.Answers.{Answer, REFUSED, MADE, LINKED, TAKEN, DONE, SEARCHED, PRIORITY, OVERFLOW, DROPPED, PERM, OP, EVENT, NONE, COUNTER, REGISTER, READY, NOT_READY, REACHED, NONE_REACHED}
 use Rattle.portals.specs.Answers.{new_answer, append_answer, plain_answer, search_answer, request_answer, event_answer, counter_answer, register_answer, ready_answer, poll_answer}
+use Rattle.portals.specs.declared.answers.Done.{Done}
 use Rattle.portals.specs.Promises.{NewMet, AppendMet, UnlinkMet, SearchMet, PutMet, GetMet, ReadEventMet, SetCounterMet, IncrementMet, ReadCounterMet, ReadRegisterMet, ReadyMet, PollMet}
 use Rattle.gussetreed.specs.declared.layout.Reply.{Reply}
 use Rattle.gussetreed.specs.declared.layout.EventReply.{EventReply}
-use Rattle.gussetreed.specs.declared.replied.Replied.{Replied}
-use Rattle.gussetreed.specs.declared.replied.EventReplied.{EventReplied}
 
 abbrev pub reply : ℕ → ℕ → ℕ → ℕ → Reply
 reply answer code value second = record { answer = answer; code = code; value = value; second = second }
@@ -77,35 +76,35 @@ pub record Told {A R : Type 0} (tell : A → R) (P : A → Type 0) (r : R) : Typ
   pub met : P answer
   pub told : r ≡ tell answer
 
-abbrev pub NewTold : Settings → Replied → Type 0
+abbrev pub NewTold : Settings → Done Reply → Type 0
 NewTold s r = Told (λ a. reply_of (new_answer a)) (λ a. NewMet s (record { target = r.target; answer = a })) r.answer
 
-abbrev pub AppendTold : Target → Entry → Replied → Type 0
+abbrev pub AppendTold : Target → Entry → Done Reply → Type 0
 AppendTold t e r = Told (λ a. reply_of (append_answer a)) (λ a. AppendMet t e (record { target = r.target; answer = a })) r.answer
 
-abbrev pub UnlinkTold : Target → ℕ → Replied → Type 0
+abbrev pub UnlinkTold : Target → ℕ → Done Reply → Type 0
 UnlinkTold t handle r = Told (λ a. reply_of (plain_answer a)) (λ a. UnlinkMet t handle (record { target = r.target; answer = a })) r.answer
 
-abbrev pub SearchTold : Target → Entry → Replied → Type 0
+abbrev pub SearchTold : Target → Entry → Done Reply → Type 0
 SearchTold t e r = Told (λ a. reply_of (search_answer a)) (λ a. SearchMet t e (record { target = r.target; answer = a })) r.answer
 
 -- the memory before and after
-abbrev pub PutTold : Target → List ℕ → Request → List ℕ → Replied → List ℕ → Type 0
+abbrev pub PutTold : Target → List ℕ → Request → List ℕ → Done Reply → List ℕ → Type 0
 PutTold t memory q payload r memory' =
     Told (λ a. reply_of (request_answer a)) (λ a. PutMet t memory q payload (record { target = r.target; answer = a }) memory') r.answer
 
 -- the reply buffer before and after; the memory is lent to be read only
-abbrev pub GetTold : Target → List ℕ → Request → List ℕ → Replied → List ℕ → Type 0
+abbrev pub GetTold : Target → List ℕ → Request → List ℕ → Done Reply → List ℕ → Type 0
 GetTold t memory q buffer r buffer' =
     Told (λ a. reply_of (request_answer a)) (λ a. GetMet t memory q buffer (record { target = r.target; answer = a }) buffer') r.answer
 
-abbrev pub ReadEventTold : Target → EventReplied → Type 0
+abbrev pub ReadEventTold : Target → Done EventReply → Type 0
 ReadEventTold t r = Told (λ a. event_reply_of (event_answer a)) (λ a. ReadEventMet t (record { target = r.target; answer = a })) r.answer
 
-abbrev pub SetCounterTold : Target → CounterChange → Replied → Type 0
+abbrev pub SetCounterTold : Target → CounterChange → Done Reply → Type 0
 SetCounterTold t x r = Told (λ a. reply_of (plain_answer a)) (λ a. SetCounterMet t x (record { target = r.target; answer = a })) r.answer
 
-abbrev pub IncrementTold : Target → CounterChange → Replied → Type 0
+abbrev pub IncrementTold : Target → CounterChange → Done Reply → Type 0
 IncrementTold t x r = Told (λ a. reply_of (plain_answer a)) (λ a. IncrementMet t x (record { target = r.target; answer = a })) r.answer
 
 abbrev pub ReadCounterTold : Target → ℕ → Reply → Type 0

@@ -1,9 +1,6 @@
 // The reference target for hosts in C and Rust: the calls over a lent target, with numbers and byte slices alone at the boundary.
 #![tactic(auto)]
 
-pub mod alone;
 pub mod calls;
 pub mod layout;
-pub mod replied;
 pub mod replies;
-pub mod told;

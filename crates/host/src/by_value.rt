@@ -1,135 +1,107 @@
-// The calls on a lent target, by value again: each lends a copy of the target to the call in `lent`, and hands back the copy as that call
-// left it. The promise is the one of the call of its name in `portals`, letter for letter.
+// The calls by value: each calls the one of its name in `portals` on the target that it is handed, and hands back the state that this
+// leaves beside the answer, after a refusal the very same state. What a call does is said at that call in `portals`, and the promise is
+// the one there.
 ghost use Rattle.portals.specs.Promises.{NewMet, AppendMet, UnlinkMet, SearchMet, PutMet, GetMet, ReadEventMet, SetCounterMet, IncrementMet, ReadCounterMet, ReadRegisterMet, ReadyMet, PollMet};
 
-use crate::lent;
 use matching::layout::{Entry, Request};
-use portals::answers::{
-    AppendDone, CounterAnswer, EventDone, NewDone, PlainDone, PollAnswer, ReadyAnswer,
-    RegisterAnswer, RequestDone, SearchDone,
-};
-use state::layout::{CounterChange, CounterTest, Settings, Target};
+use matching::refusals::Refusal;
+use portals::answers::{Appended, Done, RequestAnswer};
+use portals::{append, counters, events, making, poll, put_get, registers, search, unlink};
+use state::layout::{Counter, CounterChange, CounterTest, Event, Settings, Target};
 
-// `place` is only room for the new target.
-pub fn new(place: Target, s: Settings) -> NewDone
+// Makes a target: beside a refusal, one of size 0.
+pub fn new(s: Settings) -> Done<Result<(), Refusal>>
     ensures { NewMet s result }
 {
-    let mut u = place;
-    let a = lent::new(&mut u, s);
-    NewDone {
-        target: u,
-        answer: a,
-    }
+    let mut target = Target::empty(0);
+    let answer = making::new(&mut target, s);
+    Done { target, answer }
 }
 
-pub fn append(t: Target, e: Entry) -> AppendDone
+pub fn append(t: Target, e: Entry) -> Done<Result<Appended, Refusal>>
     ensures { AppendMet t e result }
 {
-    let mut u = t;
-    let a = lent::append(&mut u, e);
-    AppendDone {
-        target: u,
-        answer: a,
-    }
+    let mut target = t;
+    let answer = append::append(&mut target, e);
+    Done { target, answer }
 }
 
-pub fn unlink(t: Target, handle: u32) -> PlainDone
+pub fn unlink(t: Target, handle: u32) -> Done<Result<(), Refusal>>
     ensures { UnlinkMet t handle result }
 {
-    let mut u = t;
-    let a = lent::unlink(&mut u, handle);
-    PlainDone {
-        target: u,
-        answer: a,
-    }
+    let mut target = t;
+    let answer = unlink::unlink(&mut target, handle);
+    Done { target, answer }
 }
 
-pub fn search(t: Target, e: Entry) -> SearchDone
+pub fn search(t: Target, e: Entry) -> Done<Result<usize, Refusal>>
     ensures { SearchMet t e result }
 {
-    let mut u = t;
-    let a = lent::search(&mut u, e);
-    SearchDone {
-        target: u,
-        answer: a,
-    }
+    let mut target = t;
+    let answer = search::search(&mut target, e);
+    Done { target, answer }
 }
 
-pub fn put(t: Target, memory: &mut [u8], q: Request, payload: &[u8]) -> RequestDone
+pub fn put(t: Target, memory: &mut [u8], q: Request, payload: &[u8]) -> Done<Result<RequestAnswer, Refusal>>
     ensures { PutMet t memory.old q payload.now result memory.new }
 {
-    let mut u = t;
-    let a = lent::put(&mut u, memory, q, payload);
-    RequestDone {
-        target: u,
-        answer: a,
-    }
+    let mut target = t;
+    let answer = put_get::put(&mut target, memory, q, payload);
+    Done { target, answer }
 }
 
-pub fn get(t: Target, memory: &[u8], q: Request, reply: &mut [u8]) -> RequestDone
+pub fn get(t: Target, memory: &[u8], q: Request, reply: &mut [u8]) -> Done<Result<RequestAnswer, Refusal>>
     ensures { GetMet t memory.now q reply.old result reply.new }
 {
-    let mut u = t;
-    let a = lent::get(&mut u, memory, q, reply);
-    RequestDone {
-        target: u,
-        answer: a,
-    }
+    let mut target = t;
+    let answer = put_get::get(&mut target, memory, q, reply);
+    Done { target, answer }
 }
 
-pub fn read_event(t: Target) -> EventDone
+pub fn read_event(t: Target) -> Done<Result<Option<Event>, Refusal>>
     ensures { ReadEventMet t result }
 {
-    let mut u = t;
-    let a = lent::read_event(&mut u);
-    EventDone {
-        target: u,
-        answer: a,
-    }
+    let mut target = t;
+    let answer = events::read_event(&mut target);
+    Done { target, answer }
 }
 
-pub fn set_counter(t: Target, x: CounterChange) -> PlainDone
+pub fn set_counter(t: Target, x: CounterChange) -> Done<Result<(), Refusal>>
     ensures { SetCounterMet t x result }
 {
-    let mut u = t;
-    let a = lent::set_counter(&mut u, x);
-    PlainDone {
-        target: u,
-        answer: a,
-    }
+    let mut target = t;
+    let answer = counters::set_counter(&mut target, x);
+    Done { target, answer }
 }
 
-pub fn increment(t: Target, x: CounterChange) -> PlainDone
+pub fn increment(t: Target, x: CounterChange) -> Done<Result<(), Refusal>>
     ensures { IncrementMet t x result }
 {
-    let mut u = t;
-    let a = lent::increment(&mut u, x);
-    PlainDone {
-        target: u,
-        answer: a,
-    }
+    let mut target = t;
+    let answer = counters::increment(&mut target, x);
+    Done { target, answer }
 }
 
-pub fn read_counter(t: Target, k: u64) -> CounterAnswer
+pub fn read_counter(t: Target, k: u64) -> Result<Counter, Refusal>
     ensures { ReadCounterMet t k result }
 {
-    lent::read_counter(&t, k)
+    counters::read_counter(&t, k)
 }
 
-pub fn read_register(t: Target, k: u64) -> RegisterAnswer
+pub fn read_register(t: Target, k: u64) -> Result<u64, Refusal>
     ensures { ReadRegisterMet t k result }
 {
-    lent::read_register(&t, k)
+    registers::read_register(&t, k)
 }
 
-pub fn ready(t: Target, x: CounterTest) -> ReadyAnswer
+pub fn ready(t: Target, x: CounterTest) -> Result<bool, Refusal>
     ensures { ReadyMet t x result }
 {
-    lent::ready(&t, x)
+    counters::ready(&t, x)
 }
 
-pub fn poll(t: Target, ks: &[u64], tests: &[u64]) -> PollAnswer
+pub fn poll(t: Target, ks: &[u64], tests: &[u64]) -> Result<Option<usize>, Refusal>
     ensures { PollMet t ks.now tests.now result }
 {
-    lent::poll(&t, ks, tests)
+    poll::poll(&t, ks, tests)
 }

@@ -3,29 +3,21 @@
 ghost use Rattle.std.specs.Prelude.{◌+◌, ◌*◌, ◌≤◌, length};
 
 use matching::refusals::Refusal;
-use portals::answers::{
-    AppendAnswer, NewAnswer, PlainAnswer, PollAnswer, ReadyAnswer, RequestAnswer,
-};
+use portals::answers::{Appended, RequestAnswer};
 use printer::said;
 use std::io;
 use std::io::Stdout;
 
-// A line: the first bytes of a buffer.
-fn first(stdout: Stdout, out: &[u8], n: usize) -> io::Result<()> {
-    if n <= out.len() {
-        stdout.write_all(&out[..n])?;
-    }
-    Ok(())
-}
-
-// How the call was made, and its line.
+// A line: how the call was made, and as many bytes of a buffer.
 fn say(stdout: Stdout, way: &[u8], out: &[u8; 400], n: usize) -> io::Result<()> {
     stdout.write_all(way)?;
-    first(stdout, out, n)?;
+    if let Some(line) = out.get(..n) {
+        stdout.write_all(line)?;
+    }
     stdout.write_all(b"\n")
 }
 
-pub fn say_append(stdout: Stdout, way: &[u8], k: usize, a: AppendAnswer) -> io::Result<()> {
+pub fn say_append(stdout: Stdout, way: &[u8], k: usize, a: Result<Appended, Refusal>) -> io::Result<()> {
     let mut out = [0u8; 400];
     let n = said::append_said(&mut out, k, a);
     say(stdout, way, &out, n)
@@ -33,7 +25,7 @@ pub fn say_append(stdout: Stdout, way: &[u8], k: usize, a: AppendAnswer) -> io::
 
 fn say_refused(stdout: Stdout, way: &[u8], k: usize, refusal: Refusal) -> io::Result<()> {
     let mut out = [0u8; 400];
-    let n = said::plain_said(&mut out, k, PlainAnswer::Refused(refusal));
+    let n = said::plain_said(&mut out, k, Err(refusal));
     say(stdout, way, &out, n)
 }
 
@@ -46,31 +38,31 @@ fn say_word(stdout: Stdout, way: &[u8], k: usize, word: &[u8], numbers: &[u64]) 
     say(stdout, way, &out, n)
 }
 
-pub fn say_put(stdout: Stdout, way: &[u8], k: usize, a: RequestAnswer) -> io::Result<()> {
+pub fn say_put(stdout: Stdout, way: &[u8], k: usize, a: Result<RequestAnswer, Refusal>) -> io::Result<()> {
     let mut out = [0u8; 400];
     let n = said::request_said(&mut out, k, a);
     say(stdout, way, &out, n)
 }
 
-pub fn say_new(stdout: Stdout, way: &[u8], k: usize, a: NewAnswer) -> io::Result<()> {
+pub fn say_new(stdout: Stdout, way: &[u8], k: usize, a: Result<(), Refusal>) -> io::Result<()> {
     match a {
-        NewAnswer::Made => say_word(stdout, way, k, b" MADE", &[]),
-        NewAnswer::Refused(refusal) => say_refused(stdout, way, k, refusal),
+        Ok(()) => say_word(stdout, way, k, b" MADE", &[]),
+        Err(refusal) => say_refused(stdout, way, k, refusal),
     }
 }
 
-pub fn say_ready(stdout: Stdout, way: &[u8], k: usize, a: ReadyAnswer) -> io::Result<()> {
+pub fn say_ready(stdout: Stdout, way: &[u8], k: usize, a: Result<bool, Refusal>) -> io::Result<()> {
     match a {
-        ReadyAnswer::Ready => say_word(stdout, way, k, b" READY", &[]),
-        ReadyAnswer::NotReady => say_word(stdout, way, k, b" NOT_READY", &[]),
-        ReadyAnswer::Refused(refusal) => say_refused(stdout, way, k, refusal),
+        Ok(true) => say_word(stdout, way, k, b" READY", &[]),
+        Ok(false) => say_word(stdout, way, k, b" NOT_READY", &[]),
+        Err(refusal) => say_refused(stdout, way, k, refusal),
     }
 }
 
-pub fn say_poll(stdout: Stdout, way: &[u8], k: usize, a: PollAnswer) -> io::Result<()> {
+pub fn say_poll(stdout: Stdout, way: &[u8], k: usize, a: Result<Option<usize>, Refusal>) -> io::Result<()> {
     match a {
-        PollAnswer::Reached(place) => say_word(stdout, way, k, b" REACHED", &[place as u64]),
-        PollAnswer::NoneReached => say_word(stdout, way, k, b" NONE_REACHED", &[]),
-        PollAnswer::Refused(refusal) => say_refused(stdout, way, k, refusal),
+        Ok(Some(place)) => say_word(stdout, way, k, b" REACHED", &[place as u64]),
+        Ok(None) => say_word(stdout, way, k, b" NONE_REACHED", &[]),
+        Err(refusal) => say_refused(stdout, way, k, refusal),
     }
 }
