@@ -4,7 +4,7 @@
  *   crates/matching/src/layout.rt
  *   crates/matching/src/entry.rt
  *   crates/state/src/layout.rt
- *   crates/state/src/kinds.rt
+ *   crates/matching/src/kinds.rt
  *   crates/gussetreed/src/layout.rt
  *   crates/gussetreed/src/calls.rt
  * Not to be edited: change the source and run the tool. The library is libgussetreed.a; examples/host.c is a host.
@@ -259,7 +259,7 @@ typedef struct gussetreed_counter_test {
 } gussetreed_counter_test;
 GUSSETREED_SIZE_IS(gussetreed_counter_test, 16);
 
-/* ---- crates/state/src/kinds.rt */
+/* ---- crates/matching/src/kinds.rt */
 
 /* The kinds of a full event. */
 #define GUSSETREED_EVENT_LINK 0u

@@ -3,11 +3,11 @@
 -- A call on a lent target is proved to meet its `spec`, which the toolchain makes of its `requires` and `ensures`. For each call this
 -- page shows, by computation alone (`-promised`), that its spec asks nothing, and that what it says is the call's record of `portals`,
 -- at the target as it was lent and as it is left. That record is what a step of a list is made of (`-steps`): from the target that was
--- lent to the target that is left. `new` begins a list (`new-begins`). The calls by value over these have the contracts of the calls in
--- `portals` (`-same`), which `portals` ties to the records in its own page of this name. A contract that says less or more, or that
--- asks something of its caller, is refused here.
+-- lent to the target that is left. `new` begins a list (`new-begins`). Of each call by value it shows likewise that it promises the
+-- same record, of the target that it is handed and of the one that it hands back, and asks nothing (`-same`). A contract that says less
+-- or more, or that asks something of its caller, is refused here.
 use mathlib.Core.Path.{◌≡◌, refl}
-use mathlib.Core.Bool.{false}
+use mathlib.Core.Bool.{Bool, false}
 use mathlib.Core.List.{List}
 use Prim.Native.Nat.{ℕ}
 use lib.Dec.{eqb}
@@ -24,27 +24,23 @@ use denote.MutBor.{MutBor}
 use denote.Triple.Clauses.{Ended, AtExit}
 use denote.Triple.Entry.{Args, Res}
 use denote.Triple.Spec.{SpecAt, exits}
+use Rattle.std.specs.Prelude.{Option, Result}
+use Rattle.matching.specs.declared.refusals.Refusal.{Refusal}
 use Rattle.matching.specs.declared.layout.Entry.{Entry}
 use Rattle.matching.specs.declared.layout.Request.{Request}
 use Rattle.state.specs.View.{view_of}
 use Rattle.state.specs.declared.layout.Settings.{Settings}
 use Rattle.state.specs.declared.layout.CounterChange.{CounterChange}
 use Rattle.state.specs.declared.layout.CounterTest.{CounterTest}
+use Rattle.state.specs.declared.layout.Counter.{Counter}
+use Rattle.state.specs.declared.layout.Event.{Event}
 use Rattle.state.specs.declared.layout.Target.{Target}
 use Rattle.portals.specs.Answers.{append_answer, plain_answer, search_answer, request_answer, event_answer, counter_answer, register_answer, ready_answer, poll_answer}
 use Rattle.portals.specs.Calls as Call
 use Rattle.portals.specs.Promises.{NewMet, AppendMet, UnlinkMet, SearchMet, PutMet, GetMet, ReadEventMet, SetCounterMet, IncrementMet, ReadCounterMet, ReadRegisterMet, ReadyMet, PollMet}
-use Rattle.portals.specs.declared.answers.NewAnswer.{NewAnswer}
-use Rattle.portals.specs.declared.answers.NewDone.{NewDone}
-use Rattle.portals.specs.declared.answers.AppendAnswer.{AppendAnswer}
-use Rattle.portals.specs.declared.answers.PlainAnswer.{PlainAnswer}
-use Rattle.portals.specs.declared.answers.SearchAnswer.{SearchAnswer}
+use Rattle.portals.specs.declared.answers.Appended.{Appended}
 use Rattle.portals.specs.declared.answers.RequestAnswer.{RequestAnswer}
-use Rattle.portals.specs.declared.answers.EventAnswer.{EventAnswer}
-use Rattle.portals.specs.declared.answers.CounterAnswer.{CounterAnswer}
-use Rattle.portals.specs.declared.answers.RegisterAnswer.{RegisterAnswer}
-use Rattle.portals.specs.declared.answers.ReadyAnswer.{ReadyAnswer}
-use Rattle.portals.specs.declared.answers.PollAnswer.{PollAnswer}
+use Rattle.portals.specs.declared.answers.Done.{Done}
 use Rattle.conservation.specs.Runs.{Stepped, Ran, Line, line, line_elsewhere}
 use Rattle.conservation.specs.Runs as step
 use Rattle.conservation.specs.Conserved.{Conserved}
@@ -75,19 +71,6 @@ use Rattle.host.proofs.by_value.read_counter.Reads as by-read-counter
 use Rattle.host.proofs.by_value.read_register.Reads as by-read-register
 use Rattle.host.proofs.by_value.ready.Reads as by-ready
 use Rattle.host.proofs.by_value.poll.Reads as by-poll
-use Rattle.portals.proofs.making.new.Reads as core-new
-use Rattle.portals.proofs.append.append.Reads as core-append
-use Rattle.portals.proofs.unlink.unlink.Reads as core-unlink
-use Rattle.portals.proofs.search.search.Reads as core-search
-use Rattle.portals.proofs.put_get.put.Reads as core-put
-use Rattle.portals.proofs.put_get.get.Reads as core-get
-use Rattle.portals.proofs.events.read_event.Reads as core-read-event
-use Rattle.portals.proofs.counters.set_counter.Reads as core-set-counter
-use Rattle.portals.proofs.counters.increment.Reads as core-increment
-use Rattle.portals.proofs.counters.read_counter.Reads as core-read-counter
-use Rattle.portals.proofs.registers.read_register.Reads as core-read-register
-use Rattle.portals.proofs.counters.ready.Reads as core-ready
-use Rattle.portals.proofs.poll.poll.Reads as core-poll
 
 module _ {M : Type 1} {𝓤 : Ura M} (𝓛 : Logic 𝓤) (mem : Memory → SProp 𝓤) (run : Routine → Fun 𝓤) where
   -- A contract that asks nothing, and says P of the answer and of what the parameters are left as.
@@ -147,99 +130,106 @@ module _ {M : Type 1} {𝓤 : Ura M} (𝓛 : Logic 𝓤) (mem : Memory → SProp
 -- ## Each call is a step: t is lent, and t' is left; m is the memory
 
 module _ {m : List ℕ} {t t' : Target} where
-  pub append-steps : {e : Entry} (r : AppendAnswer) → AppendMet t e (record { target = t'; answer = r }) → Stepped t m (line m (Call.append e) (append_answer r)) t' m
+  pub append-steps : {e : Entry} (r : Result Appended Refusal) → AppendMet t e (record { target = t'; answer = r }) → Stepped t m (line m (Call.append e) (append_answer r)) t' m
   append-steps r = step.append (record { target = t'; answer = r })
 
-  pub unlink-steps : {handle : ℕ} (r : PlainAnswer) → UnlinkMet t handle (record { target = t'; answer = r }) → Stepped t m (line m (Call.unlink handle) (plain_answer r)) t' m
+  pub unlink-steps : {handle : ℕ} (r : Result Unit Refusal) → UnlinkMet t handle (record { target = t'; answer = r }) → Stepped t m (line m (Call.unlink handle) (plain_answer r)) t' m
   unlink-steps r = step.unlink (record { target = t'; answer = r })
 
-  pub search-steps : {e : Entry} (r : SearchAnswer) → SearchMet t e (record { target = t'; answer = r }) → Stepped t m (line m (Call.search e) (search_answer r)) t' m
+  pub search-steps : {e : Entry} (r : Result ℕ Refusal) → SearchMet t e (record { target = t'; answer = r }) → Stepped t m (line m (Call.search e) (search_answer r)) t' m
   search-steps r = step.search (record { target = t'; answer = r })
 
-  pub read-event-steps : (r : EventAnswer) → ReadEventMet t (record { target = t'; answer = r }) → Stepped t m (line m Call.read_event (event_answer r)) t' m
+  pub read-event-steps : (r : Result (Option Event) Refusal) → ReadEventMet t (record { target = t'; answer = r }) → Stepped t m (line m Call.read_event (event_answer r)) t' m
   read-event-steps r = step.read_event (record { target = t'; answer = r })
 
-  pub set-counter-steps : {x : CounterChange} (r : PlainAnswer) → SetCounterMet t x (record { target = t'; answer = r }) → Stepped t m (line m (Call.set_counter x) (plain_answer r)) t' m
+  pub set-counter-steps : {x : CounterChange} (r : Result Unit Refusal) → SetCounterMet t x (record { target = t'; answer = r }) → Stepped t m (line m (Call.set_counter x) (plain_answer r)) t' m
   set-counter-steps r = step.set_counter (record { target = t'; answer = r })
 
-  pub increment-steps : {x : CounterChange} (r : PlainAnswer) → IncrementMet t x (record { target = t'; answer = r }) → Stepped t m (line m (Call.increment x) (plain_answer r)) t' m
+  pub increment-steps : {x : CounterChange} (r : Result Unit Refusal) → IncrementMet t x (record { target = t'; answer = r }) → Stepped t m (line m (Call.increment x) (plain_answer r)) t' m
   increment-steps r = step.increment (record { target = t'; answer = r })
 
-  pub put-steps : {q : Request} {payload m' : List ℕ} (r : RequestAnswer) → PutMet t m q payload (record { target = t'; answer = r }) m' → Stepped t m (line m (Call.put q payload) (request_answer r)) t' m'
+  pub put-steps : {q : Request} {payload m' : List ℕ} (r : Result RequestAnswer Refusal) → PutMet t m q payload (record { target = t'; answer = r }) m' → Stepped t m (line m (Call.put q payload) (request_answer r)) t' m'
   put-steps r = step.put (record { target = t'; answer = r })
 
-  pub get-steps : {q : Request} {reply reply' : List ℕ} (r : RequestAnswer) → GetMet t m q reply (record { target = t'; answer = r }) reply' → Stepped t m (line m (Call.get q reply) (request_answer r)) t' m
+  pub get-steps : {q : Request} {reply reply' : List ℕ} (r : Result RequestAnswer Refusal) → GetMet t m q reply (record { target = t'; answer = r }) reply' → Stepped t m (line m (Call.get q reply) (request_answer r)) t' m
   get-steps r = step.get (record { target = t'; answer = r })
 
   -- lent a memory of another length
-  pub put-elsewhere-steps : (lent : List ℕ) {lent' : List ℕ} (q : Request) (payload : List ℕ) (r : RequestAnswer) → PutMet t lent q payload (record { target = t'; answer = r }) lent' → eqb (length lent) (length m) ≡ false → Stepped t m (line_elsewhere m lent (request_answer r)) t' m
+  pub put-elsewhere-steps : (lent : List ℕ) {lent' : List ℕ} (q : Request) (payload : List ℕ) (r : Result RequestAnswer Refusal) → PutMet t lent q payload (record { target = t'; answer = r }) lent' → eqb (length lent) (length m) ≡ false → Stepped t m (line_elsewhere m lent (request_answer r)) t' m
   put-elsewhere-steps lent q payload r = step.put_elsewhere lent q payload (record { target = t'; answer = r })
 
-  pub get-elsewhere-steps : (lent : List ℕ) (q : Request) {reply reply' : List ℕ} (r : RequestAnswer) → GetMet t lent q reply (record { target = t'; answer = r }) reply' → eqb (length lent) (length m) ≡ false → Stepped t m (line_elsewhere m lent (request_answer r)) t' m
+  pub get-elsewhere-steps : (lent : List ℕ) (q : Request) {reply reply' : List ℕ} (r : Result RequestAnswer Refusal) → GetMet t lent q reply (record { target = t'; answer = r }) reply' → eqb (length lent) (length m) ≡ false → Stepped t m (line_elsewhere m lent (request_answer r)) t' m
   get-elsewhere-steps lent q r = step.get_elsewhere lent q (record { target = t'; answer = r })
 
 -- a call that only reads leaves the target that it is lent
 module _ {m : List ℕ} {t : Target} where
-  pub read-counter-steps : {k : ℕ} (r : CounterAnswer) → ReadCounterMet t k r → Stepped t m (line m (Call.read_counter k) (counter_answer r)) t m
+  pub read-counter-steps : {k : ℕ} (r : Result Counter Refusal) → ReadCounterMet t k r → Stepped t m (line m (Call.read_counter k) (counter_answer r)) t m
   read-counter-steps r = step.read_counter r
 
-  pub read-register-steps : {k : ℕ} (r : RegisterAnswer) → ReadRegisterMet t k r → Stepped t m (line m (Call.read_register k) (register_answer r)) t m
+  pub read-register-steps : {k : ℕ} (r : Result ℕ Refusal) → ReadRegisterMet t k r → Stepped t m (line m (Call.read_register k) (register_answer r)) t m
   read-register-steps r = step.read_register r
 
-  pub ready-steps : {x : CounterTest} (r : ReadyAnswer) → ReadyMet t x r → Stepped t m (line m (Call.ready x) (ready_answer r)) t m
+  pub ready-steps : {x : CounterTest} (r : Result Bool Refusal) → ReadyMet t x r → Stepped t m (line m (Call.ready x) (ready_answer r)) t m
   ready-steps r = step.ready r
 
-  pub poll-steps : {ks tests : List ℕ} (r : PollAnswer) → PollMet t ks tests r → Stepped t m (line m (Call.poll ks tests) (poll_answer r)) t m
+  pub poll-steps : {ks tests : List ℕ} (r : Result (Option ℕ) Refusal) → PollMet t ks tests r → Stepped t m (line m (Call.poll ks tests) (poll_answer r)) t m
   poll-steps r = step.poll r
 
 -- ## A list begins with `new`
 
-pub new-begins : (s : Settings) (t : Target) (r : NewAnswer) (start : List ℕ) (log : List Line) (t' : Target) (m : List ℕ)
+pub new-begins : (s : Settings) (t : Target) (r : Result Unit Refusal) (start : List ℕ) (log : List Line) (t' : Target) (m : List ℕ)
     → NewMet s (record { target = t; answer = r })
     → length start ≡ (view_of t).size
     → Ran t start log t' m
     → Conserved start log t' m
 new-begins s t r = conservation s (record { target = t; answer = r })
 
--- ## The calls by value over these
+-- ## The calls by value
 
-pub append-same : (by_append.Learnt ≡ core-append.Learnt) × (by_append.Asked ≡ core-append.Asked)
-append-same = (refl, refl)
+module _ (κs : Lfts 0) where
+  pub new-same : (s : Settings) (r : Done (Result Unit Refusal)) → (by-new.Learnt κs (s, tt) r (s, tt) ≡ NewMet s r) × (by-new.Asked κs (s, tt) ≡ Unit {0})
+  new-same s r = (refl, refl)
 
-pub unlink-same : (by-unlink.Learnt ≡ core-unlink.Learnt) × (by-unlink.Asked ≡ core-unlink.Asked)
-unlink-same = (refl, refl)
+module _ (κs : Lfts 0) (t : Target) where
+  pub append-same : (e : Entry) (r : Done (Result Appended Refusal)) → (by_append.Learnt κs (t, (e, tt)) r (t, (e, tt)) ≡ AppendMet t e r) × (by_append.Asked κs (t, (e, tt)) ≡ Unit {0})
+  append-same e r = (refl, refl)
 
-pub search-same : (by-search.Learnt ≡ core-search.Learnt) × (by-search.Asked ≡ core-search.Asked)
-search-same = (refl, refl)
+  pub unlink-same : (handle : ℕ) (r : Done (Result Unit Refusal)) → (by-unlink.Learnt κs (t, (handle, tt)) r (t, (handle, tt)) ≡ UnlinkMet t handle r) × (by-unlink.Asked κs (t, (handle, tt)) ≡ Unit {0})
+  unlink-same handle r = (refl, refl)
 
-pub put_same : (by-put.Learnt ≡ core-put.Learnt) × (by-put.Asked ≡ core-put.Asked)
-put_same = (refl, refl)
+  pub search-same : (e : Entry) (r : Done (Result ℕ Refusal)) → (by-search.Learnt κs (t, (e, tt)) r (t, (e, tt)) ≡ SearchMet t e r) × (by-search.Asked κs (t, (e, tt)) ≡ Unit {0})
+  search-same e r = (refl, refl)
 
-pub get-same : (by-get.Learnt ≡ core-get.Learnt) × (by-get.Asked ≡ core-get.Asked)
-get-same = (refl, refl)
+  pub read-event-same : (r : Done (Result (Option Event) Refusal)) → (by-read-event.Learnt κs (t, tt) r (t, tt) ≡ ReadEventMet t r) × (by-read-event.Asked κs (t, tt) ≡ Unit {0})
+  read-event-same r = (refl, refl)
 
-pub read-event-same : (by-read-event.Learnt ≡ core-read-event.Learnt) × (by-read-event.Asked ≡ core-read-event.Asked)
-read-event-same = (refl, refl)
+  pub set-counter-same : (x : CounterChange) (r : Done (Result Unit Refusal)) → (by-set-counter.Learnt κs (t, (x, tt)) r (t, (x, tt)) ≡ SetCounterMet t x r) × (by-set-counter.Asked κs (t, (x, tt)) ≡ Unit {0})
+  set-counter-same x r = (refl, refl)
 
-pub set-counter-same : (by-set-counter.Learnt ≡ core-set-counter.Learnt) × (by-set-counter.Asked ≡ core-set-counter.Asked)
-set-counter-same = (refl, refl)
+  pub increment-same : (x : CounterChange) (r : Done (Result Unit Refusal)) → (by-increment.Learnt κs (t, (x, tt)) r (t, (x, tt)) ≡ IncrementMet t x r) × (by-increment.Asked κs (t, (x, tt)) ≡ Unit {0})
+  increment-same x r = (refl, refl)
 
-pub increment-same : (by-increment.Learnt ≡ core-increment.Learnt) × (by-increment.Asked ≡ core-increment.Asked)
-increment-same = (refl, refl)
+  pub read-counter-same : (k : ℕ) (r : Result Counter Refusal) → (by-read-counter.Learnt κs (t, (k, tt)) r (t, (k, tt)) ≡ ReadCounterMet t k r) × (by-read-counter.Asked κs (t, (k, tt)) ≡ Unit {0})
+  read-counter-same k r = (refl, refl)
 
-pub read-counter-same : (by-read-counter.Learnt ≡ core-read-counter.Learnt) × (by-read-counter.Asked ≡ core-read-counter.Asked)
-read-counter-same = (refl, refl)
+  pub read-register-same : (k : ℕ) (r : Result ℕ Refusal) → (by-read-register.Learnt κs (t, (k, tt)) r (t, (k, tt)) ≡ ReadRegisterMet t k r) × (by-read-register.Asked κs (t, (k, tt)) ≡ Unit {0})
+  read-register-same k r = (refl, refl)
 
-pub read-register-same : (by-read-register.Learnt ≡ core-read-register.Learnt) × (by-read-register.Asked ≡ core-read-register.Asked)
-read-register-same = (refl, refl)
+  pub ready-same : (x : CounterTest) (r : Result Bool Refusal) → (by-ready.Learnt κs (t, (x, tt)) r (t, (x, tt)) ≡ ReadyMet t x r) × (by-ready.Asked κs (t, (x, tt)) ≡ Unit {0})
+  ready-same x r = (refl, refl)
 
-pub ready-same : (by-ready.Learnt ≡ core-ready.Learnt) × (by-ready.Asked ≡ core-ready.Asked)
-ready-same = (refl, refl)
+-- and those that are lent two slices
+module _ (κs : Lfts 2) (t : Target) where
+  -- a is the memory, left as a', and b the payload
+  pub put_same : (a : MutBor (List ℕ)) (b : Bor (List ℕ)) (q : Request) (r : Done (Result RequestAnswer Refusal)) (a' : MutBor (List ℕ))
+      → (by-put.Learnt κs (t, (a, (q, (b, tt)))) r (t, (a', (q, (b, tt)))) ≡ PutMet t a.now q b.now r a'.now) × (by-put.Asked κs (t, (a, (q, (b, tt)))) ≡ Unit {0})
+  put_same a b q r a' = (refl, refl)
 
-pub poll-same : (by-poll.Learnt ≡ core-poll.Learnt) × (by-poll.Asked ≡ core-poll.Asked)
-poll-same = (refl, refl)
+  -- a is the memory, and b the reply, left as b'
+  pub get-same : (a : Bor (List ℕ)) (b : MutBor (List ℕ)) (q : Request) (r : Done (Result RequestAnswer Refusal)) (b' : MutBor (List ℕ))
+      → (by-get.Learnt κs (t, (a, (q, (b, tt)))) r (t, (a, (q, (b', tt)))) ≡ GetMet t a.now q b.now r b'.now) × (by-get.Asked κs (t, (a, (q, (b, tt)))) ≡ Unit {0})
+  get-same a b q r b' = (refl, refl)
 
--- it is passed a place, of which nothing is said
-pub new-same : (κs : Lfts 0) (place : Target) (s : Settings) (r : NewDone)
-    → (by-new.Learnt κs (place, (s, tt)) r (place, (s, tt)) ≡ core-new.Learnt κs (s, tt) r (s, tt)) × (by-new.Asked κs (place, (s, tt)) ≡ core-new.Asked κs (s, tt))
-new-same κs place s r = (refl, refl)
+  -- a is the list of counters, and b that of their tests
+  pub poll-same : (a b : Bor (List ℕ)) (r : Result (Option ℕ) Refusal) → (by-poll.Learnt κs (t, (a, (b, tt))) r (t, (a, (b, tt))) ≡ PollMet t a.now b.now r) × (by-poll.Asked κs (t, (a, (b, tt))) ≡ Unit {0})
+  poll-same a b r = (refl, refl)
