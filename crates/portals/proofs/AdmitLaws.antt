@@ -113,7 +113,7 @@ good-tested tested e = ap none_bad e
 -- a call on a counter that was admitted has one
 pub counter-inside : (k : ℕ) (t : Target) → Ok tt ≡ admission (λ v. counter_tests k) t → k < COUNTERS
 counter-inside k t e =
-    ltb-true k COUNTERS (good-both (ltb k COUNTERS) (Ok tt) BadArgument.Counter refl (admitted-passed t (λ v. counter_tests k) e).0).0
+    ltb-true k COUNTERS (good-both (ltb k COUNTERS) (Ok tt) BadArgument.Counter (admitted-passed t (λ v. counter_tests k) e).0).0
 
 -- a poll that was admitted has lists of equal length
 pub lists-equal : (ks tests : List ℕ) (t : Target)
@@ -121,8 +121,8 @@ pub lists-equal : (ks tests : List ℕ) (t : Target)
     → length ks ≡ length tests
 lists-equal ks tests t e =
     let passed = (admitted-passed t (λ v. good_arguments (bad_poll_argument ks tests) ∷ []) e).0 in
-    let counters = good-both (every is_counter ks) _ BadArgument.Counter refl passed in
-    eqb-true (length ks) (length tests) (good-both (eqb (length ks) (length tests)) (Ok tt) BadArgument.ListLength refl counters.1).0
+    let counters = good-both (every is_counter ks) _ BadArgument.Counter passed in
+    eqb-true (length ks) (length tests) (good-both (eqb (length ks) (length tests)) (Ok tt) BadArgument.ListLength counters.1).0
 
 -- an argument that alone is tested is good if it passes
 good-alone : (passed : Bool) (argument : BadArgument) → none_bad (cond passed (Ok tt) (Err argument)) ≡ passed
