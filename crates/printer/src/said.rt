@@ -1,7 +1,9 @@
 // Document 01, "Script and printout": what a line of the printout says of a call: its number, and its answer.
+#![tactic(auto, using(text::proofs::WritingLaws::shorter, text::proofs::WritingLaws::and_then), unfolding(crate::specs::Said::said))]
+
 ghost use Rattle.std.specs.Prelude.{◌≡◌, ◌++◌, ◌+◌, ◌*◌, ◌≤◌, length, take};
 ghost use Rattle.text.specs.Text.{decimal_of, fields_of};
-ghost use Rattle.text.specs.Writing.{Wrote};
+ghost use Rattle.text.specs.Writing.{Room, Wrote};
 ghost use Rattle.matching.specs.Refusals.{refusal_number};
 ghost use Rattle.matching.specs.Kinds.{event_kind, fail_type};
 ghost use Rattle.portals.specs.Answers.{refused, append_answer, plain_answer, search_answer, request_answer, event_answer, counter_answer, register_answer, EVENT};
@@ -11,16 +13,16 @@ use matching::events::{EventKind, FailType};
 use matching::refusals::Refusal;
 use portals::answers::{Appended, RequestAnswer};
 use state::layout::{Counter, Event};
-use text::{decimals, hex, writing};
+use text::writing::Writer;
 
 // The number of a call, a word and numbers.
-pub fn put_said(out: &mut [u8], k: usize, word: &[u8], numbers: &[u64]) -> usize
-    requires { 20 + length word.now + 21 * length numbers.now ≤ length out.old }
-    ensures { Wrote out.old 0 (decimal_of k ++ (word.now ++ fields_of numbers.now)) (20 + (length word.now + 21 * length numbers.now)) out.new result }
+pub fn put_said(w: &mut Writer, k: usize, word: &[u8], numbers: &[u64])
+    requires { Room w.old (20 + (length word.now + 21 * length numbers.now)) }
+    ensures { Wrote w.old (decimal_of k ++ (word.now ++ fields_of numbers.now)) (20 + (length word.now + 21 * length numbers.now)) w.new }
 {
-    let a = decimals::put_decimal(out, 0, k as u64);
-    let b = writing::put_bytes(out, a, word);
-    decimals::put_fields(out, b, numbers)
+    w.put_decimal(k as u64);
+    w.put_bytes(word);
+    w.put_fields(numbers);
 }
 
 // "REFUSED name".
@@ -37,83 +39,83 @@ fn refusal_text(refusal: Refusal) -> &'static [u8]
     }
 }
 
-fn refusal_said(out: &mut [u8], k: usize, refusal: Refusal) -> usize
-    requires { SAID ≤ length out.old }
-    ensures { Wrote out.old 0 (said k (refused refusal)) SAID out.new result }
+fn refusal_said(w: &mut Writer, k: usize, refusal: Refusal)
+    requires { Room w.old SAID }
+    ensures { Wrote w.old (said k (refused refusal)) SAID w.new }
 {
-    put_said(out, k, refusal_text(refusal), &[])
+    put_said(w, k, refusal_text(refusal), &[])
 }
 
-pub fn append_said(out: &mut [u8], k: usize, a: Result<Appended, Refusal>) -> usize
-    requires { SAID ≤ length out.old }
-    ensures { Wrote out.old 0 (said k (append_answer a)) SAID out.new result }
+pub fn append_said(w: &mut Writer, k: usize, a: Result<Appended, Refusal>)
+    requires { Room w.old SAID }
+    ensures { Wrote w.old (said k (append_answer a)) SAID w.new }
 {
     match a {
-        Ok(Appended::Linked(handle)) => put_said(out, k, b" LINKED", &[handle as u64]),
-        Ok(Appended::Taken) => put_said(out, k, b" TAKEN", &[]),
-        Err(refusal) => refusal_said(out, k, refusal),
+        Ok(Appended::Linked(handle)) => put_said(w, k, b" LINKED", &[handle as u64]),
+        Ok(Appended::Taken) => put_said(w, k, b" TAKEN", &[]),
+        Err(refusal) => refusal_said(w, k, refusal),
     }
 }
 
-pub fn plain_said(out: &mut [u8], k: usize, a: Result<(), Refusal>) -> usize
-    requires { SAID ≤ length out.old }
-    ensures { Wrote out.old 0 (said k (plain_answer a)) SAID out.new result }
+pub fn plain_said(w: &mut Writer, k: usize, a: Result<(), Refusal>)
+    requires { Room w.old SAID }
+    ensures { Wrote w.old (said k (plain_answer a)) SAID w.new }
 {
     match a {
-        Ok(()) => put_said(out, k, b" DONE", &[]),
-        Err(refusal) => refusal_said(out, k, refusal),
+        Ok(()) => put_said(w, k, b" DONE", &[]),
+        Err(refusal) => refusal_said(w, k, refusal),
     }
 }
 
-pub fn search_said(out: &mut [u8], k: usize, a: Result<usize, Refusal>) -> usize
-    requires { SAID ≤ length out.old }
-    ensures { Wrote out.old 0 (said k (search_answer a)) SAID out.new result }
+pub fn search_said(w: &mut Writer, k: usize, a: Result<usize, Refusal>)
+    requires { Room w.old SAID }
+    ensures { Wrote w.old (said k (search_answer a)) SAID w.new }
 {
     match a {
-        Ok(n) => put_said(out, k, b" SEARCHED", &[n as u64]),
-        Err(refusal) => refusal_said(out, k, refusal),
+        Ok(n) => put_said(w, k, b" SEARCHED", &[n as u64]),
+        Err(refusal) => refusal_said(w, k, refusal),
     }
 }
 
-pub fn request_said(out: &mut [u8], k: usize, a: Result<RequestAnswer, Refusal>) -> usize
-    requires { SAID ≤ length out.old }
-    ensures { Wrote out.old 0 (said k (request_answer a)) SAID out.new result }
+pub fn request_said(w: &mut Writer, k: usize, a: Result<RequestAnswer, Refusal>)
+    requires { Room w.old SAID }
+    ensures { Wrote w.old (said k (request_answer a)) SAID w.new }
 {
     match a {
         Ok(RequestAnswer::Priority {
             length,
             offset,
             ack,
-        }) => put_said(out, k, b" PRIORITY", &[length as u64, offset, ack as u64]),
+        }) => put_said(w, k, b" PRIORITY", &[length as u64, offset, ack as u64]),
         Ok(RequestAnswer::Overflow {
             length,
             offset,
             ack,
-        }) => put_said(out, k, b" OVERFLOW", &[length as u64, offset, ack as u64]),
-        Ok(RequestAnswer::Dropped(ack)) => put_said(out, k, b" DROPPED", &[ack as u64]),
-        Ok(RequestAnswer::PermissionViolation(ack)) => put_said(out, k, b" PERM", &[ack as u64]),
-        Ok(RequestAnswer::OperationViolation(ack)) => put_said(out, k, b" OP", &[ack as u64]),
-        Err(refusal) => refusal_said(out, k, refusal),
+        }) => put_said(w, k, b" OVERFLOW", &[length as u64, offset, ack as u64]),
+        Ok(RequestAnswer::Dropped(ack)) => put_said(w, k, b" DROPPED", &[ack as u64]),
+        Ok(RequestAnswer::PermissionViolation(ack)) => put_said(w, k, b" PERM", &[ack as u64]),
+        Ok(RequestAnswer::OperationViolation(ack)) => put_said(w, k, b" OP", &[ack as u64]),
+        Err(refusal) => refusal_said(w, k, refusal),
     }
 }
 
-pub fn counter_said(out: &mut [u8], k: usize, a: Result<Counter, Refusal>) -> usize
-    requires { SAID ≤ length out.old }
-    ensures { Wrote out.old 0 (said k (counter_answer a)) SAID out.new result }
+pub fn counter_said(w: &mut Writer, k: usize, a: Result<Counter, Refusal>)
+    requires { Room w.old SAID }
+    ensures { Wrote w.old (said k (counter_answer a)) SAID w.new }
 {
     match a {
-        Ok(c) => put_said(out, k, b" COUNTER", &[c.success, c.failure]),
-        Err(refusal) => refusal_said(out, k, refusal),
+        Ok(c) => put_said(w, k, b" COUNTER", &[c.success, c.failure]),
+        Err(refusal) => refusal_said(w, k, refusal),
     }
 }
 
-pub fn register_said(out: &mut [u8], k: usize, a: Result<u64, Refusal>) -> usize
-    requires { SAID ≤ length out.old }
-    ensures { Wrote out.old 0 (said k (register_answer a)) SAID out.new result }
+pub fn register_said(w: &mut Writer, k: usize, a: Result<u64, Refusal>)
+    requires { Room w.old SAID }
+    ensures { Wrote w.old (said k (register_answer a)) SAID w.new }
 {
     match a {
-        Ok(n) => put_said(out, k, b" REGISTER", &[n]),
-        Err(refusal) => refusal_said(out, k, refusal),
+        Ok(n) => put_said(w, k, b" REGISTER", &[n]),
+        Err(refusal) => refusal_said(w, k, refusal),
     }
 }
 
@@ -146,9 +148,9 @@ fn fail_text(fail: FailType) -> &'static [u8]
 }
 
 // Portal, list, identities and match bits of an event.
-fn put_event_source(out: &mut [u8], at: usize, e: &Event) -> usize
-    requires { at + 126 ≤ length out.old }
-    ensures { Wrote out.old at (fields_of (event_source e.now)) 126 out.new result }
+fn put_event_source(w: &mut Writer, e: &Event)
+    requires { Room w.old 126 }
+    ensures { Wrote w.old (fields_of (event_source e.now)) 126 w.new }
 {
     let numbers = [
         e.portal as u64,
@@ -158,13 +160,13 @@ fn put_event_source(out: &mut [u8], at: usize, e: &Event) -> usize
         e.uid as u64,
         e.matchbits,
     ];
-    decimals::put_fields(out, at, &numbers)
+    w.put_fields(&numbers);
 }
 
 // Lengths, offset, place, header data, user number and gap of an event.
-fn put_event_message(out: &mut [u8], at: usize, e: &Event) -> usize
-    requires { at + 147 ≤ length out.old }
-    ensures { Wrote out.old at (fields_of (event_message e.now)) 147 out.new result }
+fn put_event_message(w: &mut Writer, e: &Event)
+    requires { Room w.old 147 }
+    ensures { Wrote w.old (fields_of (event_message e.now)) 147 w.new }
 {
     let numbers = [
         e.requested as u64,
@@ -175,67 +177,63 @@ fn put_event_message(out: &mut [u8], at: usize, e: &Event) -> usize
         e.user,
         e.gap as u64,
     ];
-    decimals::put_fields(out, at, &numbers)
+    w.put_fields(&numbers);
 }
 
 // An event with its fields and gap.
-fn put_event(out: &mut [u8], k: usize, e: &Event) -> usize
-    requires { SAID ≤ length out.old }
-    ensures { Wrote out.old 0 (said k (EVENT e.now)) SAID out.new result }
+fn put_event(w: &mut Writer, k: usize, e: &Event)
+    requires { Room w.old SAID }
+    ensures { Wrote w.old (said k (EVENT e.now)) SAID w.new }
 {
-    let a = put_said(out, k, b" EVENT", &[]);
-    let b = writing::put_bytes(out, a, kind_text(EventKind::from(e.kind)));
-    let c = writing::put_bytes(out, b, fail_text(FailType::from(e.fail)));
-    let d = put_event_source(out, c, e);
-    put_event_message(out, d, e)
+    put_said(w, k, b" EVENT", &[]);
+    w.put_bytes(kind_text(EventKind::from(e.kind)));
+    w.put_bytes(fail_text(FailType::from(e.fail)));
+    put_event_source(w, e);
+    put_event_message(w, e);
 }
 
-pub fn event_said(out: &mut [u8], k: usize, a: Result<Option<Event>, Refusal>) -> usize
-    requires { SAID ≤ length out.old }
-    ensures { Wrote out.old 0 (said k (event_answer a)) SAID out.new result }
+pub fn event_said(w: &mut Writer, k: usize, a: Result<Option<Event>, Refusal>)
+    requires { Room w.old SAID }
+    ensures { Wrote w.old (said k (event_answer a)) SAID w.new }
 {
     match a {
-        Ok(Some(e)) => put_event(out, k, &e),
-        Ok(None) => put_said(out, k, b" NONE", &[]),
-        Err(refusal) => refusal_said(out, k, refusal),
+        Ok(Some(e)) => put_event(w, k, &e),
+        Ok(None) => put_said(w, k, b" NONE", &[]),
+        Err(refusal) => refusal_said(w, k, refusal),
     }
 }
 
 // Bytes in hex behind a space, or a dash for none.
-fn put_shown(out: &mut [u8], at: usize, bytes: &[u8]) -> usize
-    requires { at + (2 + 2 * length bytes.now) ≤ length out.old }
-    ensures { Wrote out.old at (shown_text bytes.now) (2 + 2 * length bytes.now) out.new result }
+fn put_shown(w: &mut Writer, bytes: &[u8])
+    requires { Room w.old (2 + 2 * length bytes.now) }
+    ensures { Wrote w.old (shown_text bytes.now) (2 + 2 * length bytes.now) w.new }
 {
     if bytes.is_empty() {
-        return writing::put_bytes(out, at, b" -");
+        w.put_bytes(b" -");
+    } else {
+        w.put_byte(b' ');
+        w.put_hex(bytes);
     }
-    let a = writing::put_byte(out, at, b' ');
-    hex::put_hex(out, a, bytes)
 }
 
 // The first n bytes of a reply, or all of one that has fewer.
-fn put_first(out: &mut [u8], at: usize, reply: &[u8], n: u32) -> usize
-    requires { at + (2 + 2 * length reply.now) ≤ length out.old }
-    ensures { Wrote out.old at (shown_text (take n reply.now)) (2 + 2 * length reply.now) out.new result }
+fn put_first(w: &mut Writer, reply: &[u8], n: u32)
+    requires { Room w.old (2 + 2 * length reply.now) }
+    ensures { Wrote w.old (shown_text (take n reply.now)) (2 + 2 * length reply.now) w.new }
 {
     let n = reply.len().min(n as usize);
-    put_shown(out, at, &reply[..n])
+    put_shown(w, &reply[..n]);
 }
 
 // What a get adds to its line: the bytes accepted, where it was delivered.
-pub fn put_reply(out: &mut [u8], at: usize, a: Result<RequestAnswer, Refusal>, reply: &[u8]) -> usize
-    requires { at + (2 + 2 * length reply.now) ≤ length out.old }
-    ensures { Wrote out.old at (shown_of (request_answer a) reply.now) (2 + 2 * length reply.now) out.new result }
+pub fn put_reply(w: &mut Writer, a: Result<RequestAnswer, Refusal>, reply: &[u8])
+    requires { Room w.old (2 + 2 * length reply.now) }
+    ensures { Wrote w.old (shown_of (request_answer a) reply.now) (2 + 2 * length reply.now) w.new }
 {
     match a {
         Ok(RequestAnswer::Priority { length, .. } | RequestAnswer::Overflow { length, .. }) => {
-            put_first(out, at, reply, length)
+            put_first(w, reply, length);
         }
-        Ok(
-            RequestAnswer::Dropped(_)
-            | RequestAnswer::PermissionViolation(_)
-            | RequestAnswer::OperationViolation(_),
-        )
-        | Err(_) => at,
+        _ => {}
     }
 }

@@ -1,4 +1,3 @@
 pub mod NumberLaws
 pub mod ContentsLaws
-pub mod CallLaws
 pub mod JudgingLaws

@@ -1,41 +1,53 @@
--- Laws of little-endian numbers, over their width.
-use mathlib.Core.Path.{◌≡◌, refl}
-use mathlib.Core.List.{List}
-use Prim.Native.Nat.{ℕ, suc, ◌+◌, ◌-◌, ◌*◌, ◌^◌, ◌≤◌, ◌<◌}
-use native.Mathlib.Nat.{pow-suc, pow-le-pow_right}
+-- Laws of little-endian numbers: std reads the same from as many bytes.
+use mathlib.Core.Path.{◌≡◌, refl, sym, ap, ◌∙◌}
+use mathlib.Core.List.{List, [], ◌∷◌}
+use Prim.Native.Nat.{ℕ, zero, suc, ◌+◌, ◌-◌, ◌*◌, ◌^◌, ◌≤◌}
+use native.Mathlib.Nat.{pow-suc}
 use native.Mathlib.Omega.{arith}
-use lib.Dec.{lit<}
-use lib.ListN.{length}
-use lib.Seq.{drop-cons}
-use Rattle.reader.specs.Numbers.{little_endian, number_at, byte_at}
+use lib.ListN.{length, take, drop, length-drop}
+use lib.Seq.{length-take-le}
+use Rattle.std.specs.List.{slice_index}
+use Rattle.std.specs.Int.{byte_worth, sum_through}
+use Rattle.reader.specs.Numbers.{little_endian, number_at}
 
-pub no_bytes : (s : List ℕ) (at : ℕ) → number_at s at 0 ≡ 0
-unfolding number_at little_endian
-no_bytes s at = refl
+-- ## std's sum, by its first byte
 
--- one byte more, the least
-byte_more : (s : List ℕ) (at n : ℕ) → at < length s → number_at s at (suc n) ≡ byte_at s at + 256 * number_at s (suc at) n
-unfolding number_at little_endian
-byte_more s at n inside = rw (drop-cons s at 0 inside) refl
-
--- The number is read from its highest byte down: those from the k-th on are read. The byte below comes next.
-pub number-turn : (s : List ℕ) (at n k number byte : ℕ) → 0 < k → k ≤ n → at + n ≤ length s
-    → number ≡ number_at s (at + k) (n - k)
-    → byte ≡ byte_at s (at + (k - 1))
-    → number * 256 + byte ≡ number_at s (at + (k - 1)) (n - (k - 1))
-number-turn s at n k number byte some inside fits is is_byte_lem =
-    let width : n - (k - 1) ≡ suc (n - k) = omega arith in
-    let next : at + k ≡ suc (at + (k - 1)) = omega arith in
-    let more = byte_more s (at + (k - 1)) (n - k) (omega arith) in
-    let read : number ≡ number_at s (suc (at + (k - 1))) (n - k) = rw next at is in
-    rw (width, more) (omega arith)
-
--- a number of n bytes and a byte more is below the next power
-pub below_next : (n number byte : ℕ) → number < 256 ^ n → byte < 256 → number * 256 + byte < 256 ^ suc n
-below_next n number byte below small = rw (pow-suc 256 n) (omega arith)
-
--- and fits 64 bits where these are 8 bytes at most
-pub fits-64 : (n number byte : ℕ) → n < 8 → number < 256 ^ n → byte < 256 → number * 256 + byte < 2 ^ 64
-fits-64 n number byte few below small =
-    let top : 256 ^ n ≤ 256 ^ 7 = pow-le-pow_right (lit< tt) {j = 7} (omega arith) in
+first_apart : (f : ℕ → ℕ) (n : ℕ) → sum_through f (suc n) ≡ f 0 + sum_through (λ i. f (suc i)) n
+first_apart f zero = refl
+first_apart f (suc n) =
+    let before = first_apart f n in
     omega arith
+
+each_more : (f g : ℕ → ℕ) (n : ℕ) → ((i : ℕ) → f i ≡ 256 * g i) → sum_through f n ≡ 256 * sum_through g n
+each_more f g zero e = e 0
+each_more f g (suc n) e =
+    let before = each_more f g n e in
+    let last = e (suc n) in
+    omega arith
+
+worth_more : (b i : ℕ) → byte_worth (suc i) b ≡ 256 * byte_worth i b
+worth_more b zero = omega arith
+worth_more b (suc i) = rw (pow-suc 256 (suc i)) (omega arith)
+
+by_bytes : (bs : List ℕ) (n : ℕ) → length bs ≡ suc n → sum_through (λ i. byte_worth i (slice_index bs i)) n ≡ little_endian bs
+unfolding little_endian
+by_bytes (b ∷ []) zero e = omega arith
+by_bytes (b ∷ c ∷ bs) (suc n) e =
+    first_apart (λ i. byte_worth i (slice_index (b ∷ c ∷ bs) i)) n
+    ∙ ap (λ (k : ℕ). b + k)
+    (each_more (λ i. byte_worth (suc i) (slice_index (c ∷ bs) i)) (λ i. byte_worth i (slice_index (c ∷ bs) i)) n (λ i. worth_more (slice_index (c ∷ bs) i) i)
+    ∙ ap (λ (k : ℕ). 256 * k) (by_bytes (c ∷ bs) n (omega arith)))
+by_bytes [] n e = absurd (omega arith)
+by_bytes (b ∷ []) (suc n) e = absurd (omega arith)
+by_bytes (b ∷ c ∷ bs) zero e = absurd (omega arith)
+
+-- what std reads from the bytes at a place
+pub number_read : (s bytes : List ℕ) (at n : ℕ) → at + suc n ≤ length s → bytes ≡ take (at + suc n - at) (drop at s)
+    → sum_through (λ i. byte_worth i (slice_index bytes i)) n ≡ number_at s at (suc n)
+unfolding number_at
+number_read s bytes at n inside is =
+    let size : at + suc n - at ≡ suc n = omega arith in
+    let part : bytes ≡ take (suc n) (drop at s) = rw (sym size) is in
+    let left : suc n ≤ length (drop at s) = rw length-drop (omega arith) in
+    let count : length bytes ≡ suc n = rw part (length-take-le (suc n) (drop at s) left) in
+    by_bytes bytes n count ∙ ap (λ (bs : List ℕ). little_endian bs) part

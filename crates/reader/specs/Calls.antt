@@ -1,27 +1,29 @@
 -- Document 01, "Script and printout": "Kinds and bodies".
-use Rattle.std.specs.Prelude.{ℕ, ◌+◌, cond, List, eqb}
+use Rattle.std.specs.Prelude.{ℕ, ◌+◌, cond, List, Option, Some, None, Result, Ok, Err, eqb}
 use Rattle.matching.specs.declared.layout.Entry.{Entry}
 use Rattle.matching.specs.declared.layout.Request.{Request}
 use Rattle.state.specs.declared.layout.CounterChange.{CounterChange}
 use Rattle.reader.specs.Numbers.{number_at, byte_at}
 use Rattle.reader.specs.declared.contents.Line.{Line}
 use Rattle.reader.specs.declared.calls.CallKind.{CallKind}
+use Rattle.reader.specs.declared.calls.UnknownKind.{UnknownKind}
 use Rattle.reader.specs.declared.calls.Call.{Call}
 
 -- "1 append and 9 search ..; 2 unlink ..; 3 put and 4 get ..; 5 read event ..; 6 read counter ..; 7 set, 8 increment ..; 10 read register".
--- The decoding knows every number: one that is no kind stands for the last.
-abbrev pub call_kind : ℕ → CallKind
+-- No other number is a kind.
+abbrev pub call_kind : ℕ → Result CallKind UnknownKind
 call_kind n =
-    cond (eqb n 1) CallKind.Append
-    (cond (eqb n 2) CallKind.Unlink
-    (cond (eqb n 3) CallKind.Put
-    (cond (eqb n 4) CallKind.Get
-    (cond (eqb n 5) CallKind.ReadEvent
-    (cond (eqb n 6) CallKind.ReadCounter
-    (cond (eqb n 7) CallKind.SetCounter
-    (cond (eqb n 8) CallKind.Increment
-    (cond (eqb n 9) CallKind.Search
-    CallKind.ReadRegister))))))))
+    cond (eqb n 1) (Ok CallKind.Append)
+    (cond (eqb n 2) (Ok CallKind.Unlink)
+    (cond (eqb n 3) (Ok CallKind.Put)
+    (cond (eqb n 4) (Ok CallKind.Get)
+    (cond (eqb n 5) (Ok CallKind.ReadEvent)
+    (cond (eqb n 6) (Ok CallKind.ReadCounter)
+    (cond (eqb n 7) (Ok CallKind.SetCounter)
+    (cond (eqb n 8) (Ok CallKind.Increment)
+    (cond (eqb n 9) (Ok CallKind.Search)
+    (cond (eqb n 10) (Ok CallKind.ReadRegister)
+    (Err (record { 0 = n })))))))))))
 
 -- "portal, list or mode, counter, zero: u8; options, start, length, min_free, uid, nid, pid: u32; match, ignore, user: u64; 56 bytes"
 unfoldable pub entry_at : List ℕ → ℕ → Entry
@@ -76,3 +78,11 @@ call_of CallKind.SetCounter s l = Call.SetCounter (change_at s l.place)
 call_of CallKind.Increment s l = Call.Increment (change_at s l.place)
 call_of CallKind.Search s l = Call.Search (entry_at s l.place)
 call_of CallKind.ReadRegister s l = Call.ReadRegister (byte_at s l.place)
+
+-- the call of a line; none where its kind is unknown
+abbrev pub call_by_kind : Result CallKind UnknownKind → List ℕ → Line → Option Call
+call_by_kind (Ok kind) s l = Some (call_of kind s l)
+call_by_kind (Err unknown) s l = None
+
+abbrev pub line_call : List ℕ → Line → Option Call
+line_call s l = call_by_kind (call_kind l.kind) s l

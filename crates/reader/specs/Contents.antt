@@ -1,9 +1,8 @@
 -- Document 01, "Script and printout": head and contents of a script.
-use Rattle.std.specs.Prelude.{ℕ, zero, suc, ◌+◌, ◌*◌, cond, ◌&&◌, List, leb, length}
+use Rattle.std.specs.Prelude.{ℕ, zero, suc, ◌+◌, ◌*◌, cond, ◌&&◌, List, Option, Some, None, leb, length}
 use Rattle.reader.specs.Numbers.{number_at, byte_at}
 use Rattle.reader.specs.declared.contents.Head.{Head}
 use Rattle.reader.specs.declared.contents.Line.{Line}
-use Rattle.reader.specs.declared.contents.LineRead.{LineRead}
 
 -- the head's length in bytes
 abbrev pub HEAD : ℕ
@@ -26,23 +25,20 @@ abbrev pub line_read : List ℕ → ℕ → Line
 line_read s at =
     record { kind = byte_at s at; reserved = byte_at s (at + 1); length = number_at s (at + 2) 2; place = number_at s (at + 4) 4 }
 
--- where there is no such line
-abbrev pub no_line : Line
-no_line = record { kind = 0; reserved = 0; length = 0; place = 0 }
-
 -- line i: none beyond the calls that a file can have, and beyond the file's end
-unfoldable pub line_at : List ℕ → ℕ → Line
-line_at s i = cond (leb (suc i) CALLS && leb (line_start (suc i)) (length s)) (line_read s (line_start i)) no_line
+unfoldable pub line_at : List ℕ → ℕ → Option Line
+line_at s i = cond (leb (suc i) CALLS && leb (line_start (suc i)) (length s)) (Some (line_read s (line_start i))) None
 
 -- the place behind place i: the next one; from CALLS on, where no file has a line, i itself
 unfoldable pub next_place : ℕ → ℕ
 next_place i = cond (leb (suc i) CALLS) (i + 1) i
 
--- line i, and the place behind it
-abbrev pub read_at : List ℕ → ℕ → LineRead
-read_at s i = record { line = line_at s i; next = next_place i }
+-- the body length that a line says
+abbrev pub body_length : Option Line → ℕ
+body_length None = 0
+body_length (Some l) = l.length
 
 -- the sum of the body lengths of m lines, from line i on
 unfoldable pub body_lengths : List ℕ → ℕ → ℕ → ℕ
 body_lengths s zero i = 0
-body_lengths s (suc m) i = (line_at s i).length + body_lengths s m (suc i)
+body_lengths s (suc m) i = body_length (line_at s i) + body_lengths s m (suc i)

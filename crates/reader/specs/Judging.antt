@@ -1,12 +1,14 @@
 -- Document 01, "Script and printout": which files are bad, and where.
-use Rattle.std.specs.Prelude.{ℕ, zero, suc, ◌+◌, Bool, cond, ◌&&◌, List, leb, eqb, length}
+use Rattle.std.specs.Prelude.{ℕ, zero, suc, ◌+◌, ◌≤◌, Bool, false, cond, ◌&&◌, List, Option, Some, None, Result, Ok, Err, leb, eqb, length}
 use Rattle.reader.specs.Numbers.{number_at, byte_at}
-use Rattle.reader.specs.Contents.{HEAD, CALLS, head_of, line_start, line_at, body_lengths}
+use Rattle.reader.specs.Contents.{HEAD, CALLS, head_of, line_start, line_at, body_length, body_lengths}
 use Rattle.reader.specs.Calls.{call_kind, request_at, length_at}
 use Rattle.reader.specs.declared.contents.Head.{Head}
 use Rattle.reader.specs.declared.contents.Line.{Line}
+use Rattle.reader.specs.declared.calls.Call.{Call}
 use Rattle.reader.specs.declared.calls.CallKind.{CallKind}
-use Rattle.reader.specs.declared.judging.Verdict.{Verdict}
+use Rattle.reader.specs.declared.calls.UnknownKind.{UnknownKind}
+use Rattle.reader.specs.declared.judging.BadScript.{BadScript}
 
 -- "to the end of a file of at most 32,768 bytes"
 abbrev pub FILE : ℕ
@@ -37,10 +39,6 @@ unfoldable pub good_head : List ℕ → Bool
 good_head s = leb HEAD (length s) && (good_fields (head_of s) && good_size s (head_of s).count)
 
 -- ## A call
-
--- not: "an unknown kind"
-abbrev pub known_kind : ℕ → Bool
-known_kind n = leb 1 n && leb n 10
 
 -- the zeros of a request's body
 abbrev pub request_zeros : List ℕ → ℕ → Bool
@@ -76,27 +74,45 @@ good_body CallKind.Increment s l = eqb l.length 17
 good_body CallKind.Search s l = good_entry s l
 good_body CallKind.ReadRegister s l = eqb l.length 1
 
--- a line that is good wherever its body should be; not: "past the end"
+-- a line that is good wherever its body should be; not: "an unknown kind", "past the end"
+abbrev pub formed_as : Result CallKind UnknownKind → List ℕ → Line → Bool
+formed_as (Err unknown) s l = false
+formed_as (Ok kind) s l = eqb l.reserved 0 && (leb (l.place + l.length) (length s) && good_body kind s l)
+
 unfoldable pub well_formed : List ℕ → Line → Bool
-well_formed s l =
-    known_kind l.kind
-    && (eqb l.reserved 0
-    && (leb (l.place + l.length) (length s)
-    && good_body (call_kind l.kind) s l))
+well_formed s l = formed_as (call_kind l.kind) s l
+
+-- what a call of a well formed line says: a put's payload lies in the file; a get asks for no more than the largest memory
+abbrev pub CallFits : List ℕ → Call → Type 0
+CallFits s (Call.Put q from end) = (from ≤ end) × (end ≤ length s)
+CallFits s (Call.Get q length) = length ≤ SCRIPT_MEMORY
+CallFits s (Call.Append e) = Unit {0}
+CallFits s (Call.Unlink handle) = Unit {0}
+CallFits s Call.ReadEvent = Unit {0}
+CallFits s (Call.ReadCounter n) = Unit {0}
+CallFits s (Call.SetCounter x) = Unit {0}
+CallFits s (Call.Increment x) = Unit {0}
+CallFits s (Call.Search e) = Unit {0}
+CallFits s (Call.ReadRegister n) = Unit {0}
 
 -- "Then the bodies, in order, no gaps": the body of this line is to begin at a place
 abbrev pub good_line : List ℕ → ℕ → Line → Bool
 good_line s at l = well_formed s l && eqb l.place at
 
+-- a line that there is, and that is good
+abbrev pub good_call : List ℕ → ℕ → Option Line → Bool
+good_call s at None = false
+good_call s at (Some l) = good_line s at l
+
 -- ## The file
 
 -- of m lines from line i on, whose bodies are to begin at a place: "n the first bad call from 0"
-unfoldable pub first_bad_call : List ℕ → ℕ → ℕ → ℕ → Verdict
-first_bad_call s zero i at = Verdict.Good
+unfoldable pub first_bad_call : List ℕ → ℕ → ℕ → ℕ → Result Unit BadScript
+first_bad_call s zero i at = Ok tt
 first_bad_call s (suc m) i at =
-    cond (good_line s at (line_at s i)) (first_bad_call s m (suc i) (at + (line_at s i).length)) (Verdict.BadCall i)
+    cond (good_call s at (line_at s i)) (first_bad_call s m (suc i) (at + body_length (line_at s i))) (Err (BadScript.Call i))
 
 -- "HEAD, tested first"
-unfoldable pub verdict_of : List ℕ → Verdict
+unfoldable pub verdict_of : List ℕ → Result Unit BadScript
 verdict_of s =
-    cond (good_head s) (first_bad_call s (head_of s).count 0 (bodies_start (head_of s).count)) Verdict.BadHead
+    cond (good_head s) (first_bad_call s (head_of s).count 0 (bodies_start (head_of s).count)) (Err BadScript.Head)

@@ -1,7 +1,7 @@
 // Document 01, "Script and printout": "Kinds and bodies".
 ghost use Rattle.std.specs.Prelude.{◌≡◌, true, ◌+◌, ◌≤◌, length};
-ghost use Rattle.reader.specs.Calls.{call_kind, entry_at, request_at, change_at, call_of};
-ghost use Rattle.reader.specs.Judging.{well_formed};
+ghost use Rattle.reader.specs.Calls.{call_kind, entry_at, request_at, change_at, call_of, line_call};
+ghost use Rattle.reader.specs.Judging.{CallFits, good_body, well_formed};
 
 use crate::contents::Line;
 use crate::numbers;
@@ -46,25 +46,35 @@ pub enum Call {
     ReadRegister(u64),
 }
 
-// The kind that a number stands for: 1 to 10.
-pub fn call_kind(n: u8) -> CallKind
-    ensures { result ≡ call_kind n }
-{
-    match n {
-        1 => CallKind::Append,
-        2 => CallKind::Unlink,
-        3 => CallKind::Put,
-        4 => CallKind::Get,
-        5 => CallKind::ReadEvent,
-        6 => CallKind::ReadCounter,
-        7 => CallKind::SetCounter,
-        8 => CallKind::Increment,
-        9 => CallKind::Search,
-        _ => CallKind::ReadRegister,
+// A number that no kind of call has.
+#[derive(Clone, Copy)]
+pub struct UnknownKind(pub u8);
+
+// The numbers of the kinds are 1 to 10.
+impl TryFrom<u8> for CallKind {
+    type Error = UnknownKind;
+
+    ghost try_from_gives = { λ n r. r ≡ call_kind n };
+
+    fn try_from(n: u8) -> Result<CallKind, UnknownKind> {
+        match n {
+            1 => Ok(CallKind::Append),
+            2 => Ok(CallKind::Unlink),
+            3 => Ok(CallKind::Put),
+            4 => Ok(CallKind::Get),
+            5 => Ok(CallKind::ReadEvent),
+            6 => Ok(CallKind::ReadCounter),
+            7 => Ok(CallKind::SetCounter),
+            8 => Ok(CallKind::Increment),
+            9 => Ok(CallKind::Search),
+            10 => Ok(CallKind::ReadRegister),
+            _ => Err(UnknownKind(n)),
+        }
     }
 }
 
 // The entry of an append or a search.
+#[tactic(auto, unfolding(crate::specs::Calls::entry_at))]
 fn entry_at(s: &[u8], at: usize) -> Entry
     requires { at + 56 ≤ length s.now }
     ensures { result ≡ entry_at s.now at }
@@ -87,6 +97,7 @@ fn entry_at(s: &[u8], at: usize) -> Entry
 }
 
 // The request of a put or a get.
+#[tactic(auto, unfolding(crate::specs::Calls::request_at))]
 fn request_at(s: &[u8], at: usize) -> Request
     requires { at + 48 ≤ length s.now }
     ensures { result ≡ request_at s.now at }
@@ -104,6 +115,7 @@ fn request_at(s: &[u8], at: usize) -> Request
 }
 
 // What a counter is set to, or incremented by.
+#[tactic(auto, unfolding(crate::specs::Calls::change_at))]
 fn change_at(s: &[u8], at: usize) -> CounterChange
     requires { at + 17 ≤ length s.now }
     ensures { result ≡ change_at s.now at }
@@ -115,13 +127,15 @@ fn change_at(s: &[u8], at: usize) -> CounterChange
     }
 }
 
-// The call of a line of the contents.
-pub fn call_of(s: &[u8], l: Line) -> Call
-    requires { well_formed s.now l ≡ true }
-    ensures { result ≡ call_of (call_kind l.kind) s.now l }
+// The call of a kind whose body a line places.
+fn call_as(kind: CallKind, s: &[u8], l: Line) -> Call
+    requires inside { l.place + l.length ≤ length s.now }
+    requires good { good_body kind s.now l ≡ true }
+    ensures call { result ≡ call_of kind s.now l }
+    ensures fits { CallFits s.now result }
 {
     let at = l.place as usize;
-    match call_kind(l.kind) {
+    match kind {
         CallKind::Append => Call::Append(entry_at(s, at)),
         CallKind::Unlink => Call::Unlink(numbers::u32_at(s, at)),
         CallKind::Put => Call::Put {
@@ -139,5 +153,18 @@ pub fn call_of(s: &[u8], l: Line) -> Call
         CallKind::Increment => Call::Increment(change_at(s, at)),
         CallKind::Search => Call::Search(entry_at(s, at)),
         CallKind::ReadRegister => Call::ReadRegister(s[at] as u64),
+    }
+}
+
+// The call of a line of the contents.
+#[tactic(auto, unfolding(crate::specs::Judging::well_formed))]
+pub fn call_of(s: &[u8], l: Line) -> Call
+    requires { well_formed s.now l ≡ true }
+    ensures call { line_call s.now l ≡ Some result }
+    ensures fits { CallFits s.now result }
+{
+    match CallKind::try_from(l.kind) {
+        Ok(kind) => call_as(kind, s, l),
+        Err(_) => unreachable!(),
     }
 }

@@ -1,9 +1,9 @@
 // Document 01, "Script and printout": "The reader keeps the file and its own place."
 ghost use Rattle.std.specs.Prelude.{◌≡◌};
-ghost use Rattle.reader.specs.Contents.{read_at};
+ghost use Rattle.reader.specs.Contents.{line_at, next_place};
 
 use crate::contents;
-use crate::contents::LineRead;
+use crate::contents::Line;
 
 // The script and the next line of its contents.
 #[derive(Clone, Copy)]
@@ -12,33 +12,26 @@ pub struct Reader<'a> {
     pub next: usize,
 }
 
-// A reader at the first line.
-pub fn opened<'a>(script: &'a [u8]) -> Reader<'a>
-    ensures { (result.script ≡ script.entry) × (result.next ≡ 0) }
-{
-    Reader { script, next: 0 }
-}
-
-// The same reader at another line.
-pub fn moved<'a>(r: Reader<'a>, next: usize) -> Reader<'a>
-    ensures { (result.script ≡ r.entry.script) × (result.next ≡ next) }
-{
-    Reader {
-        script: r.script,
-        next,
+impl<'a> Reader<'a> {
+    // A reader at the first line.
+    pub fn open(script: &'a [u8]) -> Reader<'a>
+        ensures file { result.script ≡ script.entry }
+        ensures place { result.next ≡ 0 }
+    {
+        Reader { script, next: 0 }
     }
-}
 
-// The line that it is at, and the place behind it.
-pub fn current<'a>(r: Reader<'a>) -> LineRead
-    ensures { result ≡ read_at r.entry.script.now r.entry.next }
-{
-    contents::read_at(r.script, r.next)
-}
-
-// Reads the line at a place, by way of a reader that is opened on the script and moved there.
-pub fn line_from(script: &[u8], place: usize) -> LineRead
-    ensures { result ≡ read_at script.now place }
-{
-    current(moved(opened(script), place))
+    // Reads the line that it is at, and goes on to the next one: from 1,024 on, where no file has a line, it stays.
+    #[tactic(auto, unfolding(crate::specs::Contents::next_place))]
+    pub fn read_line(&mut self) -> Option<Line>
+        ensures line { result ≡ line_at self.old.script.now self.old.next }
+        ensures file { self.new.script ≡ self.old.script }
+        ensures place { self.new.next ≡ next_place self.old.next }
+    {
+        let line = contents::line_at(self.script, self.next);
+        if self.next < contents::CALLS {
+            self.next += 1;
+        }
+        line
+    }
 }

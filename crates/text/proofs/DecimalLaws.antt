@@ -1,16 +1,18 @@
--- Laws of `decimal_of`: what one digit adds, and how long it is. Assumes nothing.
-use Prim.Native.Nat.{ℕ, zero, suc, ◌+◌, ◌-◌, ◌/◌, ◌%◌, ◌^◌, ◌≤◌, ◌<◌}
+-- Laws of `decimal_of`: its digits, and how many there are. Assumes nothing.
+use Prim.Native.Nat.{ℕ, zero, suc, ◌+◌, ◌/◌, ◌%◌, ◌^◌, ◌≤◌, ◌<◌}
 use mathlib.Core.Path.{◌≡◌, refl, sym, ap, ◌∙◌}
-use mathlib.Core.List.{List, [], ◌∷◌, ◌++◌, append_assoc}
+use mathlib.Core.List.{List, [], ◌∷◌, ◌++◌}
 use mathlib.Core.Logic.{◌⊎◌, inl, inr, ⊎_elim}
 use mathlib.Core.Bool.{Bool, true, false}
-use native.Mathlib.Nat.{pow-suc, pow-le-pow_right}
-use lib.Dec.{ltb, lit<}
+use native.Mathlib.Nat.{pow-suc}
+use lib.Dec.{ltb}
 use native.Mathlib.Omega.{arith}
-use lib.ListN.{length, drop, set, length-set, length-append}
-use lib.Seq.{drop-cons, get_or-set_same, drop-set-lt}
+use lib.ListN.{length, length-append}
 use borrow.Author.Tests.{lt-ltb, le-ltb, ltb-true, ltb-false}
 use Rattle.text.specs.Text.{digits_of, decimal_of}
+use Rattle.text.specs.Writing.{Wrote}
+use Rattle.text.specs.declared.writing.Writer.{Writer}
+use Rattle.text.proofs.WritingLaws.{and_then, as_text}
 
 by-test : (n m : ℕ) (b : Bool) → ltb n m ≡ b → (n < m) ⊎ (m ≤ n)
 by-test n m true e = inl (ltb-true n m e)
@@ -45,57 +47,27 @@ digits-short (suc k) n =
     ⊎_elim (λ small. simp (lt-ltb n 10 small) (omega arith))
     (λ large. simp (le-ltb n 10 large, length-append) (omega (arith, digits-short k (n / 10)))) (lt-or-le n 10)
 
-pub decimal-short : (n : ℕ) → length (decimal_of n) ≤ 20
+pub decimal_short : (n : ℕ) → length (decimal_of n) ≤ 20
 unfolding decimal_of
-decimal-short n = digits-short 20 n
+decimal_short n = digits-short 20 n
 
--- a digit is put in front of what stands from i on
-placed : (b : List ℕ) (i v : ℕ) → 1 ≤ i → i ≤ length b → drop (i - 1) (set b (i - 1) v) ≡ v ∷ drop i b
-placed b i v pos le =
-    let in_b : i - 1 < length b = omega arith in
-    let in-set : i - 1 < length (set b (i - 1) v) = simp length-set (omega arith) in
-    let up : suc (i - 1) ≡ i = omega arith in
-    drop-cons (set b (i - 1) v) (i - 1) 0 in-set ∙ rw
-    (get_or-set_same b (i - 1) v 0 in_b, drop-set-lt (suc (i - 1)) b (i - 1) v (omega arith), up)
+-- how many digits there are
+pub one_digit : (n : ℕ) → n < 10 → length (decimal_of n) ≡ 1
+one_digit n small = ap (λ (l : List ℕ). length l) (decimal-one n small)
 
--- a number of more than one digit that fits i digits
-pub two-at-least : (r i : ℕ) → 10 ≤ r → r < 10 ^ i → 2 ≤ i
-two-at-least r zero large h = omega arith
-two-at-least r (suc zero) large h = omega arith
-two-at-least r (suc (suc i)) large h = omega arith
+pub more_digits : (n : ℕ) → 10 ≤ n → n < 2 ^ 64 → length (decimal_of n) ≡ length (decimal_of (n / 10)) + 1
+more_digits n large fits =
+    ap (λ (l : List ℕ). length l) (decimal-more n large (omega arith)) ∙ length-append (decimal_of (n / 10)) ((48 + n % 10) ∷ [])
 
-pub next_fits : (r i : ℕ) → 1 ≤ i → r < 10 ^ i → r / 10 < 10 ^ (i - 1)
-next_fits r (suc i) pos h =
-    let e : suc i - 1 ≡ i = omega arith in
-    rw e (omega (arith, rw (pow-suc 10 i) at h))
-next_fits r zero pos h = omega arith
+-- a number of one digit is written, and one of more: those before the last, and the last
+pub wrote_one : (w w' : Writer) (n : ℕ) → n < 10 → Wrote w ((48 + n) ∷ []) 1 w' → Wrote w (decimal_of n) (length (decimal_of n)) w'
+wrote_one w w' n small p = as_text (sym (decimal-one n small)) (omega arith) p
 
-fits_all : (r i : ℕ) → r < 10 ^ i → i ≤ 20 → r < 10 ^ 20
-fits_all r i h le =
-    let top : 10 ^ i ≤ 10 ^ 20 = pow-le-pow_right (lit< tt) le in
-    omega arith
-
--- a turn of the loop: one more digit stands at the end of the buffer
-pub digit-turn :
-    (n : ℕ) (b : List ℕ) (r i : ℕ)
-    → 10 ≤ r
-    → r < 10 ^ i
-    → 1 ≤ i
-    → i ≤ 20
-    → i ≤ length b
-    → decimal_of n ≡ decimal_of r ++ drop i b
-    → decimal_of n ≡ decimal_of (r / 10) ++ drop (i - 1) (set b (i - 1) (48 + r % 10))
-digit-turn n b r i large fits pos le inside e =
-    e ∙ rw (decimal-more r large (fits_all r i fits le), placed b i (48 + r % 10) pos inside, append_assoc) refl
-
--- after the loop: the first digit
-pub digit-last :
-    (n : ℕ) (b : List ℕ) (r i : ℕ)
-    → r < 10
-    → 1 ≤ i
-    → i ≤ length b
-    → decimal_of n ≡ decimal_of r ++ drop i b
-    → drop (i - 1) (set b (i - 1) (48 + r % 10)) ≡ decimal_of n
-digit-last n b r i small pos inside e =
-    let digit : r % 10 ≡ r = omega arith in
-    placed b i (48 + r % 10) pos inside ∙ sym (e ∙ rw (decimal-one r small, digit) refl)
+pub wrote_more :
+    (w w' w'' : Writer) (n : ℕ)
+    → 10 ≤ n
+    → n < 2 ^ 64
+    → Wrote w (decimal_of (n / 10)) (length (decimal_of (n / 10))) w'
+    → Wrote w' ((48 + n % 10) ∷ []) 1 w''
+    → Wrote w (decimal_of n) (length (decimal_of n)) w''
+wrote_more w w' w'' n large fits p q = as_text (sym (decimal-more n large (omega arith))) (omega arith) (and_then p q)

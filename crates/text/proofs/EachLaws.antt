@@ -5,10 +5,11 @@ use mathlib.Core.List.{List, [], ◌∷◌, ◌++◌, append-nil, append_assoc}
 use native.Mathlib.Omega.{arith}
 use native.Mathlib.Numerals.{add-one}
 use lib.ListN.{length, take, get_or}
-use lib.Seq.{take-suc, take_all}
+use lib.Seq.{take-suc}
 use Rattle.text.specs.Text.{each_of}
 use Rattle.text.specs.Writing.{Wrote}
-use Rattle.text.proofs.WritingLaws.{and_then, as-text, wrote_none}
+use Rattle.text.specs.declared.writing.Writer.{Writer}
+use Rattle.text.proofs.WritingLaws.{and_then, as_text, wrote_none}
 
 module _ (text : ℕ → List ℕ) where
   each_append : (xs ys : List ℕ) → each_of text (xs ++ ys) ≡ each_of text xs ++ each_of text ys
@@ -24,29 +25,19 @@ module _ (text : ℕ → List ℕ) where
       sym (rw (add-one, take-suc xs i 0 inside) (each_append (take i xs) (get_or xs i 0 ∷ []) ∙ rw (append-nil (text (get_or xs i 0)))))
 
   -- before the first
-  pub each-begins : (b xs : List ℕ) (at w : ℕ) → Wrote b at (each_of text (take 0 xs)) (w * 0) b at
+  pub each-begins : (w : Writer) (xs : List ℕ) (most : ℕ) → Wrote w (each_of text (take 0 xs)) (most * 0) w
   unfolding each_of
-  each-begins b xs at w = as-text refl (omega arith) (wrote_none b at)
+  each-begins w xs most = as_text refl (omega arith) (wrote_none w)
 
   -- one more
   pub each-goes-on :
-      (b b' b'' xs : List ℕ) (at i end end' w : ℕ)
+      (w w' w'' : Writer) (xs : List ℕ) (i most : ℕ)
       → i < length xs
-      → Wrote b at (each_of text (take i xs)) (w * i) b' end
-      → Wrote b' end (text (get_or xs i 0)) w b'' end'
-      → Wrote b at (each_of text (take (i + 1) xs)) (w * (i + 1)) b'' end'
-  each-goes-on b b' b'' xs at i end end' w inside p q =
+      → Wrote w (each_of text (take i xs)) (most * i) w'
+      → Wrote w' (text (get_or xs i 0)) most w''
+      → Wrote w (each_of text (take (i + 1) xs)) (most * (i + 1)) w''
+  each-goes-on w w' w'' xs i most inside p q =
       let more = each_more xs i inside in
       let both = and_then p q in
-      let grown : w * (i + 1) ≡ w * i + w = omega arith in
-      as-text more (rw (sym more, grown) both.short) both
-
-  -- after the last
-  pub each-ends :
-      (b b' xs : List ℕ) (at i end w : ℕ)
-      → i ≡ length xs
-      → Wrote b at (each_of text (take i xs)) (w * i) b' end
-      → Wrote b at (each_of text xs) (w * length xs) b' end
-  each-ends b b' xs at i end w e p =
-      let all : take i xs ≡ xs = take_all i xs (omega (arith, e)) in
-      as-text (ap (λ (l : List ℕ). each_of text l) all) (rw (all, e) at p.short) p
+      let grown : most * (i + 1) ≡ most * i + most = omega arith in
+      as_text more (rw (sym more, grown) both.short) both

@@ -1,56 +1,51 @@
 // Numbers in decimal, with no zeros in front.
-ghost use Rattle.std.specs.Prelude.{◌≡◌, ◌+◌, ◌*◌, ◌≤◌, length, drop};
+ghost use Rattle.std.specs.Prelude.{◌*◌, length};
 ghost use Rattle.text.specs.Text.{decimal_of, field_of, fields_of};
-ghost use Rattle.text.specs.Writing.{Wrote};
+ghost use Rattle.text.specs.Writing.{Room, Wrote};
 
-use crate::writing;
+use crate::writing::Writer;
 
-// Puts the digits of n at the end of the buffer, and answers where they start.
-fn digits(n: u64, buffer: &mut [u8]) -> usize
-    requires { length buffer.old ≡ 20 }
-    ensures { (result ≤ 20) × (drop result buffer.new ≡ decimal_of n) }
-{
-    let mut rest = n;
-    let mut i: usize = 20;
-    while 10 <= rest {
-        i -= 1;
-        buffer[i] = 48 + (rest % 10) as u8;
-        rest /= 10;
+impl<'a> Writer<'a> {
+    // Writes the digits of a number, the highest first.
+    #[tactic(auto, using(crate::proofs::DecimalLaws::one_digit, crate::proofs::DecimalLaws::more_digits, crate::proofs::DecimalLaws::wrote_one, crate::proofs::DecimalLaws::wrote_more))]
+    fn put_digits(&mut self, n: u64)
+        requires { Room self.old (length (decimal_of n)) }
+        ensures { Wrote self.old (decimal_of n) (length (decimal_of n)) self.new }
+    {
+        if n < 10 {
+            self.put_byte(b'0' + n as u8);
+        } else {
+            self.put_digits(n / 10);
+            self.put_byte(b'0' + (n % 10) as u8);
+        }
     }
-    i -= 1;
-    buffer[i] = 48 + (rest % 10) as u8;
-    i
-}
 
-// Writes a number.
-pub fn put_decimal(out: &mut [u8], at: usize, n: u64) -> usize
-    requires { at + 20 ≤ length out.old }
-    ensures { Wrote out.old at (decimal_of n) 20 out.new result }
-{
-    let mut buffer = [0u8; 20];
-    let i = digits(n, &mut buffer);
-    writing::put_bytes(out, at, &buffer[i..])
-}
-
-// Writes a space and a number.
-fn put_field(out: &mut [u8], at: usize, n: u64) -> usize
-    requires { at + 21 ≤ length out.old }
-    ensures { Wrote out.old at (field_of n) 21 out.new result }
-{
-    let a = writing::put_byte(out, at, b' ');
-    put_decimal(out, a, n)
-}
-
-// Writes numbers, each behind a space.
-pub fn put_fields(out: &mut [u8], at: usize, numbers: &[u64]) -> usize
-    requires { at + 21 * length numbers.now ≤ length out.old }
-    ensures { Wrote out.old at (fields_of numbers.now) (21 * length numbers.now) out.new result }
-{
-    let mut end = at;
-    let mut i: usize = 0;
-    while i < numbers.len() {
-        end = put_field(out, end, numbers[i]);
-        i += 1;
+    // Writes a number.
+    #[tactic(auto, using(crate::proofs::DecimalLaws::decimal_short, crate::proofs::WritingLaws::shorter))]
+    pub fn put_decimal(&mut self, n: u64)
+        requires { Room self.old 20 }
+        ensures { Wrote self.old (decimal_of n) 20 self.new }
+    {
+        self.put_digits(n);
     }
-    end
+
+    // Writes a space and a number.
+    #[tactic(auto, using(crate::proofs::WritingLaws::and_then), unfolding(crate::specs::Text::field_of))]
+    fn put_field(&mut self, n: u64)
+        requires { Room self.old 21 }
+        ensures { Wrote self.old (field_of n) 21 self.new }
+    {
+        self.put_byte(b' ');
+        self.put_decimal(n);
+    }
+
+    // Writes numbers, each behind a space.
+    pub fn put_fields(&mut self, numbers: &[u64])
+        requires { Room self.old (21 * length numbers.now) }
+        ensures { Wrote self.old (fields_of numbers.now) (21 * length numbers.now) self.new }
+    {
+        for n in numbers {
+            self.put_field(*n);
+        }
+    }
 }

@@ -1,22 +1,41 @@
-// Bytes written into a buffer. Every function answers the place behind what it wrote.
-ghost use Rattle.std.specs.Prelude.{[], ◌∷◌, ◌+◌, ◌≤◌, length};
-ghost use Rattle.text.specs.Writing.{Wrote};
+// Text written into a buffer, piece by piece.
+ghost use Rattle.std.specs.Prelude.{◌≡◌, [], ◌∷◌, ◌+◌, ◌≤◌, length};
+ghost use Rattle.text.specs.Writing.{Wrote, Room};
 
-// Writes bytes as they are.
-pub fn put_bytes(out: &mut [u8], at: usize, bytes: &[u8]) -> usize
-    requires { at + length bytes.now ≤ length out.old }
-    ensures { Wrote out.old at bytes.now (length bytes.now) out.new result }
-{
-    let end = at + bytes.len();
-    out[at..end].copy_from_slice(bytes);
-    end
+// A buffer, and the place behind what was written.
+pub struct Writer<'a> {
+    pub out: &'a mut [u8],
+    pub at: usize,
 }
 
-// Writes one byte.
-pub fn put_byte(out: &mut [u8], at: usize, byte: u8) -> usize
-    requires { at + 1 ≤ length out.old }
-    ensures { Wrote out.old at (byte ∷ []) 1 out.new result }
-{
-    out[at] = byte;
-    at + 1
+impl<'a> Writer<'a> {
+    // A writer at the buffer's start.
+    pub fn new(out: &'a mut [u8]) -> Writer<'a>
+        ensures buffer { result.out.now ≡ out.old }
+        ensures same { result.out.ghost_name ≡ out.entry.ghost_name }
+        ensures start { result.at ≡ 0 }
+    {
+        Writer { out, at: 0 }
+    }
+
+    // Writes bytes as they are.
+    pub fn put_bytes(&mut self, bytes: &[u8])
+        requires { Room self.old (length bytes.now) }
+        ensures { Wrote self.old bytes.now (length bytes.now) self.new }
+    {
+        let end = self.at + bytes.len();
+        let out = &mut *self.out;
+        out[self.at..end].copy_from_slice(bytes);
+        self.at = end;
+    }
+
+    // Writes one byte.
+    pub fn put_byte(&mut self, byte: u8)
+        requires { Room self.old 1 }
+        ensures { Wrote self.old (byte ∷ []) 1 self.new }
+    {
+        let out = &mut *self.out;
+        out[self.at] = byte;
+        self.at += 1;
+    }
 }

@@ -5,7 +5,4 @@ use Rattle.reader.specs.Contents.{body_lengths}
 use Rattle.reader.proofs.contents.body_lengths.Given as goal
 
 abbrev pub invariant-loop-i : goal.invariant-loop-i
-invariant-loop-i l = (l.i ≤ l.count) × ((l.sum ≤ l.i * 65535) × (body_lengths l.s l.count 0 ≡ l.sum + body_lengths l.s (l.count - l.i) l.i))
-
-abbrev pub decreases-loop-i : goal.decreases-loop-i
-decreases-loop-i l = l.count - l.i
+invariant-loop-i l = (l.sum ≤ l.i * 65535) × (body_lengths l.s l.count 0 ≡ l.sum + body_lengths l.s (l.count - l.i) l.i)
