@@ -1,13 +1,10 @@
 -- The loops over the headers that were found, and over the entries that keep their slot.
-use mathlib.Core.Path.{◌≡◌, refl, ap, sym, ◌∙◌}
-use mathlib.Core.Bool.{Bool, true, false, not, and-false}
-use mathlib.Core.List.{List, [], ◌∷◌, ◌++◌, append-nil, append_assoc, map}
-use Prim.Native.Nat.{ℕ, ◌+◌, ◌≤◌, ◌<◌}
-use native.Mathlib.Omega.{arith}
-use borrow.Author.Tests.{eqb-true, eqb-false, ne_eqb}
-use lib.Dec.{eqb}
-use lib.ListN.{length, take, drop, get_or, length-append}
+use Rattle.std.proofs.Common.{◌≡◌, ℕ, ◌+◌, ◌-◌, ◌<◌, Bool, true, false, not, List, [], ◌∷◌, ◌++◌, length, map, take, drop, get_or, eqb, refl, ap, sym, ◌∙◌, eqb-true, ne_eqb, length-drop}
+use mathlib.Core.Bool.{and-false}
+use borrow.Author.Tests.{eqb-false}
+use Rattle.std.proofs.Math.Seq.{take-length}
 use Rattle.std.specs.List.{filter, sum_by}
+use Rattle.std.proofs.lemmas.List.Sums.{sum_by-cons}
 use Rattle.matching.specs.declared.layout.Entry.{Entry}
 use Rattle.state.specs.Lists.{every, any, select, sum_of}
 use Rattle.state.specs.Sizes.{HEADERS}
@@ -48,7 +45,7 @@ filter-select p (x ∷ l) = rw (filter-select p l)
 
 pub sum_of-by : {A : Type 0} (f : A → ℕ) (l : List A) → sum_by f l ≡ sum_of f l
 sum_of-by f [] = refl
-sum_of-by f (x ∷ l) = ap (λ (n : ℕ). f x + n) (sum_of-by f l)
+sum_of-by f (x ∷ l) = sum_by-cons f x l ∙ ap (λ (n : ℕ). f x + n) (sum_of-by f l)
 
 -- ## AUTO_FREE
 
@@ -79,15 +76,18 @@ pub handing-more : (e : Entry) (owner : ℕ) (entries : List HeldEntry) (found l
     → i < length found
     → event ≡ (overflow_event (get_or found i d) e owner).event
     → QueueHolds q' (post (queue_of q) (record { event = event; options = e.options }))
-    → waits ≡ any (names (get_or found i d).handle) (drop (i + 1) found ++ left)
+    → waits ≡ any (names (get_or found i d).handle) (take (length found - (i + 1)) (drop (i + 1) found) ++ left)
     → QueueHolds q'' (post_all (queue_of q') (free_events (get_or found i d).handle (not waits) entries))
     → Posting (hand_out_events e owner entries left) found v q'' (i + 1)
 handing-more e owner entries found left i d v q q' q'' event waits p inside made posted is freed =
     let h = get_or found i d in
-    let others = drop (i + 1) found ++ left in
+    let later = drop (i + 1) found in
+    let others = later ++ left in
+    let rest : take (length found - (i + 1)) later ≡ later = rw (← length-drop (i + 1) found) (take-length later) in
+    let told : waits ≡ any (names h.handle) others = rw rest at is in
     let first : QueueHolds q' (post_all (queue_of q) (overflow_event h e owner ∷ [])) =
     issued-posted q' (queue_of q) event (overflow_event h e owner) made posted in
     let then : QueueHolds q'' (post_all (queue_of q') (map auto_free_event (select (freed_by h others) entries))) =
-    rw (← frees h others (not waits) entries (ap not is)) freed in
+    rw (← frees h others (not waits) entries (ap not told)) freed in
     posting-more (hand_out_events e owner entries left) p d inside q'' (hand_out_event e owner entries h others) refl
     (then-posted q' q'' (queue_of q) (overflow_event h e owner ∷ []) (map auto_free_event (select (freed_by h others) entries)) first then)

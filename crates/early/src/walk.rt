@@ -1,9 +1,8 @@
 // The walk over the unexpected headers, oldest first. It is the same for an append and for both modes of a search.
 ghost use Rattle.std.specs.Prelude.{◌≡◌, ◌≤◌, length};
 ghost use Rattle.state.specs.Sizes.{HEADERS};
-ghost use Rattle.state.specs.View.{headers_of};
 ghost use Rattle.state.specs.Parts.{UnexpectedFit};
-ghost use Rattle.early.specs.Walk.{arrival_in, fits_header, no_walk, uses_once, walk_for, found_once};
+ghost use Rattle.early.specs.Walk.{arrival_in, fits_header, uses_once, walk_for, walk_if, found_once};
 ghost use Rattle.early.specs.Parts.{walk_of, WalkHolds};
 
 use matching::layout::Entry;
@@ -48,15 +47,17 @@ fn uses_once(e: &Entry) -> bool
     entry::is_set(e.options, entry::USE_ONCE)
 }
 
-// The walk: all that fit are found, or under USE_ONCE the first of them; the others are left.
-pub fn walk_for(headers: &[Header], e: &Entry) -> Walked
+// The walk of a call that walks: all that fit are found, or under USE_ONCE the first of them; the others are left. A call that does not
+// walk finds none and leaves all: its walk is over before it begins.
+#[tactic(auto, unfolding(crate::specs::Walk::walk_for))]
+pub fn walk_if(headers: &[Header], walks: bool, e: &Entry) -> Walked
     requires { length headers.now ≤ HEADERS }
-    ensures { WalkHolds result (walk_for e.now headers.now) }
+    ensures { WalkHolds result (walk_if walks e.now headers.now) }
 {
     let once = uses_once(e);
     let mut found = Unexpected::none();
     let mut left = Unexpected::none();
-    let mut over = false;
+    let mut over = !walks;
     for h in headers {
         if !over && fits_header(e, h) {
             found.add(*h);
@@ -68,15 +69,12 @@ pub fn walk_for(headers: &[Header], e: &Entry) -> Walked
     Walked { found, left }
 }
 
-// No walk: none is found, and all are left.
-pub fn no_walk(us: &Unexpected) -> Walked
-    requires { UnexpectedFit us.now }
-    ensures { WalkHolds result (no_walk (headers_of us.now)) }
+// The walk.
+pub fn walk_for(headers: &[Header], e: &Entry) -> Walked
+    requires { length headers.now ≤ HEADERS }
+    ensures { WalkHolds result (walk_for e.now headers.now) }
 {
-    Walked {
-        found: Unexpected::none(),
-        left: *us,
-    }
+    walk_if(headers, true, e)
 }
 
 // With USE_ONCE there is a fit.

@@ -1,9 +1,8 @@
 -- The loop hands out one header after the other.
 use Rattle.state.specs.View.{queue_of}
 use Rattle.early.specs.HandOut.{hand_out_events}
-use Rattle.early.specs.Parts.{walk_of}
 use Rattle.early.proofs.PostingLaws.{Posting}
 use Rattle.early.proofs.hand_out.queue_handed_out.Given as goal
 
 abbrev pub invariant-loop-i : goal.invariant-loop-i
-invariant-loop-i l = Posting (hand_out_events l.e l.owner l.entries (walk_of l.w).left) (walk_of l.w).found (queue_of l.initial.q) l.q l.i
+invariant-loop-i l = Posting (hand_out_events l.e l.owner l.entries l.left) l.found (queue_of l.initial.q) l.q l.i

@@ -1,4 +1,5 @@
 -- Of the entries that are kept there are no more than before, so that one more finds room.
+use Rattle.std.proofs.Common.{rules}
 use Rattle.early.specs.Parts.{walk_of}
 use Rattle.early.proofs.HandlingLaws.{room-kept}
 use Rattle.early.proofs.handling.change_entries.Goals as goal

@@ -13,7 +13,7 @@ returns-in-Look c =
     let w = walk_of c.args.w.now in
     rw c.in-Look.is
     (then-posted _ _ (queue_of c.args.q.now) (map (search_event c.args.e.now) w.found) (closing_events c.args.e.now w)
-    c.queue_found.ensures c.queue_closed.ensures)
+    (rw c.in_use.ensures at c.queue_found.ensures) c.queue_closed.ensures)
 
 pub returns-in-Delete : goal.returns-in-Delete
 returns-in-Delete c =
