@@ -1,11 +1,13 @@
 -- Answers told in numbers.
---     known: what is told of the answer that an arm knows is told of the answer itself.
+--     refusals_named: the header's numbers of the refusals are document 01's.
 --     read_back_lem: a reply can be read back, so that no two answers are told alike.
 --     by-definition, read-by-definition: a call's reply is the answer that its definition gives, told in numbers.
 -- Assumes nothing.
-use mathlib.Core.Path.{◌≡◌, refl, ap, sym, ◌∙◌}
-use mathlib.Core.List.{[], ◌∷◌}
+use mathlib.Core.Path.{◌≡◌, refl, ap, ◌∙◌}
+use mathlib.Core.List.{[], ◌∷◌, map}
 use lib.ListN.{get_or}
+use Rattle.matching.specs.Refusals.{refusal_number}
+use Rattle.matching.specs.declared.refusals.Refusal.TheVariants as Refusal
 use Rattle.state.specs.View.{View}
 use Rattle.state.specs.Soundness.{seen}
 use Rattle.state.specs.declared.layout.Event.{Event}
@@ -15,9 +17,12 @@ use Rattle.portals.specs.Outcome.{Outcome, unless_unsound, read_unless_unsound}
 use Rattle.portals.specs.Promises.{Met, ReadMet}
 use Rattle.gussetreed.specs.Replies.{reply_of, event_in, Told}
 use Rattle.gussetreed.specs.declared.layout.Reply.{Reply}
+use Rattle.gussetreed.specs.declared.layout.TheConstants.{BAD_STATE, BAD_MEMORY, ARG_INVALID, NO_SPACE, IN_USE}
 
-pub known : {A R : Type 0} (tell : A → R) {r : R} {a k : A} → r ≡ tell k → a ≡ k → r ≡ tell a
-known tell e is = e ∙ sym (ap tell is)
+-- ## The header's numbers
+
+pub refusals_named : map refusal_number (Refusal.BadState ∷ Refusal.BadMemory ∷ Refusal.ArgInvalid ∷ Refusal.NoSpace ∷ Refusal.InUse ∷ []) ≡ BAD_STATE ∷ BAD_MEMORY ∷ ARG_INVALID ∷ NO_SPACE ∷ IN_USE ∷ []
+refusals_named = refl
 
 -- ## No two answers are told alike
 

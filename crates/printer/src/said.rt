@@ -1,7 +1,7 @@
 // Document 01, "Script and printout": what a line of the printout says of a call: its number, and its answer.
 #![tactic(auto, using(text::proofs::WritingLaws::shorter, text::proofs::WritingLaws::and_then), unfolding(crate::specs::Said::said))]
 
-ghost use Rattle.std.specs.Prelude.{◌≡◌, ◌++◌, ◌+◌, ◌*◌, ◌≤◌, length, take};
+ghost use Rattle.std.specs.Prelude.{◌≡◌, [], ◌++◌, ◌+◌, ◌*◌, ◌≤◌, length, take};
 ghost use Rattle.text.specs.Text.{decimal_of, fields_of};
 ghost use Rattle.text.specs.Writing.{Room, Wrote};
 ghost use Rattle.matching.specs.Refusals.{refusal_number};
@@ -27,7 +27,7 @@ pub fn put_said(w: &mut Writer, k: usize, word: &[u8], numbers: &[u64])
 
 // "REFUSED name".
 fn refusal_text(refusal: Refusal) -> &'static [u8]
-    ensures text { result.now ≡ refusal_text (refusal_number refusal) }
+    ensures text { result.now ++ fields_of [] ≡ refusal_text (refusal_number refusal) }
     ensures short { length result.now ≤ 20 }
 {
     match refusal {
