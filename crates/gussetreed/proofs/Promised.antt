@@ -40,7 +40,7 @@ use Rattle.portals.specs.EarlyMessages.{append as append-rule, unlink as unlink-
 use Rattle.conservation.specs.Runs.{Stepped, Ran, Line, line, line_elsewhere}
 use Rattle.conservation.specs.Conserved.{Conserved}
 use Rattle.host.proofs.Promised as host
-use Rattle.host.proofs.Promised.{promises}
+use Rattle.portals.proofs.Promised.{promises}
 use Rattle.gussetreed.specs.declared.layout.Reply.{Reply}
 use Rattle.gussetreed.specs.declared.layout.EventReply.{EventReply}
 use Rattle.gussetreed.proofs.Telling.{by-definition, read-by-definition}

@@ -13,17 +13,14 @@ use Prim.Native.Nat.{ℕ}
 use lib.Dec.{eqb}
 use lib.ListN.{length}
 use seplogic.Ra.Ura.{Ura}
-use base.Logic.{SProp, emp}
+use base.Logic.{SProp}
 use prog.Memory.{Memory}
 use prog.Routine.{Routine}
 use types.Logic.{Logic}
 use contract.Lifetimes.{Lfts}
-use contract.Monad.{Fun, fact}
+use contract.Monad.{Fun}
 use denote.Bor.{Bor}
 use denote.MutBor.{MutBor}
-use denote.Triple.Clauses.{Ended, AtExit}
-use denote.Triple.Entry.{Args, Res}
-use denote.Triple.Spec.{SpecAt, exits}
 use Rattle.std.specs.Prelude.{Option, Result}
 use Rattle.matching.specs.declared.refusals.Refusal.{Refusal}
 use Rattle.matching.specs.declared.layout.Entry.{Entry}
@@ -41,6 +38,7 @@ use Rattle.portals.specs.Promises.{NewMet, AppendMet, UnlinkMet, SearchMet, PutM
 use Rattle.portals.specs.declared.answers.Appended.{Appended}
 use Rattle.portals.specs.declared.answers.RequestAnswer.{RequestAnswer}
 use Rattle.portals.specs.declared.answers.Done.{Done}
+use Rattle.portals.proofs.Promised.{promises}
 use Rattle.conservation.specs.Runs.{Stepped, Ran, Line, line, line_elsewhere}
 use Rattle.conservation.specs.Runs as step
 use Rattle.conservation.specs.Conserved.{Conserved}
@@ -73,58 +71,54 @@ use Rattle.host.proofs.by_value.ready.Reads as by-ready
 use Rattle.host.proofs.by_value.poll.Reads as by-poll
 
 module _ {M : Type 1} {𝓤 : Ura M} (𝓛 : Logic 𝓤) (mem : Memory → SProp 𝓤) (run : Routine → Fun 𝓤) where
-  -- A contract that asks nothing, and says P of the answer and of what the parameters are left as.
-  abbrev pub promises : (T : Ended) (κs : Lfts T.signature.lifetimes) (a : Args T.signature κs) → (Res T.signature κs → AtExit T κs → Type 0) → SpecAt 𝓤 T.signature κs
-  promises T κs a P = record { ghost = Unit {0}; requires = λ _. emp 𝓤; ensures = λ _ r. exits 𝓛 T.signature T.kept κs a (λ left. fact 𝓤 (P r left)) }
-
   -- ## The calls that are lent no slice. `left.0` is the target that is left
 
   module _ (κs : Lfts 1) (t : MutBor Target) where
-    pub new-promised : (s : Settings) → new.spec 𝓛 mem run κs (t, (s, tt)) ≡ promises new.ended κs (t, (s, tt)) (λ r left. NewMet s (record { target = left.0.now; answer = r }))
+    pub new-promised : (s : Settings) → new.spec 𝓛 mem run κs (t, (s, tt)) ≡ promises 𝓛 mem run new.ended κs (t, (s, tt)) (λ r left. NewMet s (record { target = left.0.now; answer = r }))
     new-promised s = refl
 
-    pub append-promised : (e : Entry) → append.spec 𝓛 mem run κs (t, (e, tt)) ≡ promises append.ended κs (t, (e, tt)) (λ r left. AppendMet t.now e (record { target = left.0.now; answer = r }))
+    pub append-promised : (e : Entry) → append.spec 𝓛 mem run κs (t, (e, tt)) ≡ promises 𝓛 mem run append.ended κs (t, (e, tt)) (λ r left. AppendMet t.now e (record { target = left.0.now; answer = r }))
     append-promised e = refl
 
-    pub unlink-promised : (handle : ℕ) → unlink.spec 𝓛 mem run κs (t, (handle, tt)) ≡ promises unlink.ended κs (t, (handle, tt)) (λ r left. UnlinkMet t.now handle (record { target = left.0.now; answer = r }))
+    pub unlink-promised : (handle : ℕ) → unlink.spec 𝓛 mem run κs (t, (handle, tt)) ≡ promises 𝓛 mem run unlink.ended κs (t, (handle, tt)) (λ r left. UnlinkMet t.now handle (record { target = left.0.now; answer = r }))
     unlink-promised handle = refl
 
-    pub search-promised : (e : Entry) → search.spec 𝓛 mem run κs (t, (e, tt)) ≡ promises search.ended κs (t, (e, tt)) (λ r left. SearchMet t.now e (record { target = left.0.now; answer = r }))
+    pub search-promised : (e : Entry) → search.spec 𝓛 mem run κs (t, (e, tt)) ≡ promises 𝓛 mem run search.ended κs (t, (e, tt)) (λ r left. SearchMet t.now e (record { target = left.0.now; answer = r }))
     search-promised e = refl
 
-    pub read-event-promised : read-event.spec 𝓛 mem run κs (t, tt) ≡ promises read-event.ended κs (t, tt) (λ r left. ReadEventMet t.now (record { target = left.0.now; answer = r }))
+    pub read-event-promised : read-event.spec 𝓛 mem run κs (t, tt) ≡ promises 𝓛 mem run read-event.ended κs (t, tt) (λ r left. ReadEventMet t.now (record { target = left.0.now; answer = r }))
     read-event-promised = refl
 
-    pub set-counter-promised : (x : CounterChange) → set-counter.spec 𝓛 mem run κs (t, (x, tt)) ≡ promises set-counter.ended κs (t, (x, tt)) (λ r left. SetCounterMet t.now x (record { target = left.0.now; answer = r }))
+    pub set-counter-promised : (x : CounterChange) → set-counter.spec 𝓛 mem run κs (t, (x, tt)) ≡ promises 𝓛 mem run set-counter.ended κs (t, (x, tt)) (λ r left. SetCounterMet t.now x (record { target = left.0.now; answer = r }))
     set-counter-promised x = refl
 
-    pub increment-promised : (x : CounterChange) → increment.spec 𝓛 mem run κs (t, (x, tt)) ≡ promises increment.ended κs (t, (x, tt)) (λ r left. IncrementMet t.now x (record { target = left.0.now; answer = r }))
+    pub increment-promised : (x : CounterChange) → increment.spec 𝓛 mem run κs (t, (x, tt)) ≡ promises 𝓛 mem run increment.ended κs (t, (x, tt)) (λ r left. IncrementMet t.now x (record { target = left.0.now; answer = r }))
     increment-promised x = refl
 
   -- and those that only read it
   module _ (κs : Lfts 1) (t : Bor Target) where
-    pub read-counter-promised : (k : ℕ) → read-counter.spec 𝓛 mem run κs (t, (k, tt)) ≡ promises read-counter.ended κs (t, (k, tt)) (λ r left. ReadCounterMet t.now k r)
+    pub read-counter-promised : (k : ℕ) → read-counter.spec 𝓛 mem run κs (t, (k, tt)) ≡ promises 𝓛 mem run read-counter.ended κs (t, (k, tt)) (λ r left. ReadCounterMet t.now k r)
     read-counter-promised k = refl
 
-    pub read-register-promised : (k : ℕ) → read-register.spec 𝓛 mem run κs (t, (k, tt)) ≡ promises read-register.ended κs (t, (k, tt)) (λ r left. ReadRegisterMet t.now k r)
+    pub read-register-promised : (k : ℕ) → read-register.spec 𝓛 mem run κs (t, (k, tt)) ≡ promises 𝓛 mem run read-register.ended κs (t, (k, tt)) (λ r left. ReadRegisterMet t.now k r)
     read-register-promised k = refl
 
-    pub ready-promised : (x : CounterTest) → ready.spec 𝓛 mem run κs (t, (x, tt)) ≡ promises ready.ended κs (t, (x, tt)) (λ r left. ReadyMet t.now x r)
+    pub ready-promised : (x : CounterTest) → ready.spec 𝓛 mem run κs (t, (x, tt)) ≡ promises 𝓛 mem run ready.ended κs (t, (x, tt)) (λ r left. ReadyMet t.now x r)
     ready-promised x = refl
 
   -- ## The calls that are lent two slices
 
   module _ (κs : Lfts 3) where
     -- a is the memory, left as `left.1.0`, and b the payload
-    pub put-promised : (t : MutBor Target) (a : MutBor (List ℕ)) (b : Bor (List ℕ)) (q : Request) → put.spec 𝓛 mem run κs (t, (a, (q, (b, tt)))) ≡ promises put.ended κs (t, (a, (q, (b, tt)))) (λ r left. PutMet t.now a.now q b.now (record { target = left.0.now; answer = r }) left.1.0.now)
+    pub put-promised : (t : MutBor Target) (a : MutBor (List ℕ)) (b : Bor (List ℕ)) (q : Request) → put.spec 𝓛 mem run κs (t, (a, (q, (b, tt)))) ≡ promises 𝓛 mem run put.ended κs (t, (a, (q, (b, tt)))) (λ r left. PutMet t.now a.now q b.now (record { target = left.0.now; answer = r }) left.1.0.now)
     put-promised t a b q = refl
 
     -- a is the memory, and b the reply, left as `left.1.1.1.0`
-    pub get-promised : (t : MutBor Target) (a : Bor (List ℕ)) (b : MutBor (List ℕ)) (q : Request) → get.spec 𝓛 mem run κs (t, (a, (q, (b, tt)))) ≡ promises get.ended κs (t, (a, (q, (b, tt)))) (λ r left. GetMet t.now a.now q b.now (record { target = left.0.now; answer = r }) left.1.1.1.0.now)
+    pub get-promised : (t : MutBor Target) (a : Bor (List ℕ)) (b : MutBor (List ℕ)) (q : Request) → get.spec 𝓛 mem run κs (t, (a, (q, (b, tt)))) ≡ promises 𝓛 mem run get.ended κs (t, (a, (q, (b, tt)))) (λ r left. GetMet t.now a.now q b.now (record { target = left.0.now; answer = r }) left.1.1.1.0.now)
     get-promised t a b q = refl
 
     -- a is the list of counters, and b that of their tests
-    pub poll-promised : (t : Bor Target) (a b : Bor (List ℕ)) → poll.spec 𝓛 mem run κs (t, (a, (b, tt))) ≡ promises poll.ended κs (t, (a, (b, tt))) (λ r left. PollMet t.now a.now b.now r)
+    pub poll-promised : (t : Bor Target) (a b : Bor (List ℕ)) → poll.spec 𝓛 mem run κs (t, (a, (b, tt))) ≡ promises 𝓛 mem run poll.ended κs (t, (a, (b, tt))) (λ r left. PollMet t.now a.now b.now r)
     poll-promised t a b = refl
 
 -- ## Each call is a step: t is lent, and t' is left; m is the memory

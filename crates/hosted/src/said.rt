@@ -7,26 +7,29 @@ use portals::answers::{Appended, RequestAnswer};
 use printer::said;
 use std::io;
 use std::io::Stdout;
+use text::writing::Writer;
 
-// A line: how the call was made, and as many bytes of a buffer.
-fn say(stdout: Stdout, way: &[u8], out: &[u8; 400], n: usize) -> io::Result<()> {
+// A line: how the call was made, and what was written of it.
+fn say(stdout: Stdout, way: &[u8], w: &Writer) -> io::Result<()>
+    requires { w.now.at ≤ length w.now.out.now }
+{
     stdout.write_all(way)?;
-    if let Some(line) = out.get(..n) {
-        stdout.write_all(line)?;
-    }
+    stdout.write_all(w.written())?;
     stdout.write_all(b"\n")
 }
 
 pub fn say_append(stdout: Stdout, way: &[u8], k: usize, a: Result<Appended, Refusal>) -> io::Result<()> {
     let mut out = [0u8; 400];
-    let n = said::append_said(&mut out, k, a);
-    say(stdout, way, &out, n)
+    let mut w = Writer::new(&mut out);
+    said::append_said(&mut w, k, a);
+    say(stdout, way, &w)
 }
 
 fn say_refused(stdout: Stdout, way: &[u8], k: usize, refusal: Refusal) -> io::Result<()> {
     let mut out = [0u8; 400];
-    let n = said::plain_said(&mut out, k, Err(refusal));
-    say(stdout, way, &out, n)
+    let mut w = Writer::new(&mut out);
+    said::plain_said(&mut w, k, Err(refusal));
+    say(stdout, way, &w)
 }
 
 // A word, and numbers behind it.
@@ -34,14 +37,16 @@ fn say_word(stdout: Stdout, way: &[u8], k: usize, word: &[u8], numbers: &[u64]) 
     requires { 20 + length word.now + 21 * length numbers.now ≤ 400 }
 {
     let mut out = [0u8; 400];
-    let n = said::put_said(&mut out, k, word, numbers);
-    say(stdout, way, &out, n)
+    let mut w = Writer::new(&mut out);
+    said::put_said(&mut w, k, word, numbers);
+    say(stdout, way, &w)
 }
 
 pub fn say_put(stdout: Stdout, way: &[u8], k: usize, a: Result<RequestAnswer, Refusal>) -> io::Result<()> {
     let mut out = [0u8; 400];
-    let n = said::request_said(&mut out, k, a);
-    say(stdout, way, &out, n)
+    let mut w = Writer::new(&mut out);
+    said::request_said(&mut w, k, a);
+    say(stdout, way, &w)
 }
 
 pub fn say_new(stdout: Stdout, way: &[u8], k: usize, a: Result<(), Refusal>) -> io::Result<()> {
