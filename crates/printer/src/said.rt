@@ -1,4 +1,6 @@
 // Document 01, "Script and printout": what a line of the printout says of a call: its number, and its answer.
+#![tactic(auto, using(text::proofs::WritingLaws::shorter, text::proofs::WritingLaws::and_then), unfolding(crate::specs::Said::said))]
+
 ghost use Rattle.std.specs.Prelude.{◌++◌, ◌+◌, ◌*◌, length, take};
 ghost use Rattle.text.specs.Text.{decimal_of, fields_of};
 ghost use Rattle.text.specs.Writing.{Room, Wrote};
