@@ -122,3 +122,15 @@ module _ (s : List ℕ) (good : verdict_of s ≡ Ok tt) where
   good_script_line i inside =
       let this : 0 + i ≡ i = omega arith in
       rw this at (lines-good s (head_of s).count 0 (bodies_start (head_of s).count) i judged.1 inside)
+
+  -- what a reader is given there
+  pub formed_there : (i : ℕ) (l : Line) → i < (head_of s).count → line_at s i ≡ Some l → well_formed s l ≡ true
+  formed_there i l inside is =
+      let there = good_script_line i inside in
+      let same : there.line ≡ l = cc in
+      rw same at there.formed
+
+  pub some_there : (i : ℕ) → i < (head_of s).count → line_at s i ≡ None → ⊥
+  some_there i inside is =
+      let there = good_script_line i inside in
+      cc

@@ -7,11 +7,13 @@ use native.Mathlib.Numerals.{add-one}
 use borrow.Author.Tests.{le-leb}
 use lib.ListN.{length, take, drop, replicate, length-drop, length-append, length-replicate}
 use lib.Seq.{length-take-le, take-length, take_at, drop_at, drop-drop}
+use Rattle.std.specs.Prelude.{Option, Some, Result, Ok, Err}
 use Rattle.state.specs.Sizes.{MEMORY}
 use Rattle.state.specs.View.{view_of}
 use Rattle.state.specs.Soundness.{seen}
 use Rattle.state.specs.declared.layout.Settings.{Settings}
 use Rattle.state.specs.declared.layout.Target.{Target}
+use Rattle.portals.specs.Calls.{Call}
 use Rattle.portals.specs.Making as making
 use Rattle.portals.specs.Promises.{NewMet}
 use Rattle.portals.specs.declared.answers.NewDone.{NewDone}
@@ -19,15 +21,19 @@ use Rattle.conservation.specs.Runs as runs
 use Rattle.conservation.proofs.EveryList.{conservation}
 use Rattle.text.specs.Text.{bytes_of, fields_of}
 use Rattle.text.specs.Writing.{Wrote}
-use Rattle.reader.specs.Contents.{CALLS, head_of}
+use Rattle.text.specs.declared.writing.Writer.{Writer}
+use Rattle.reader.specs.Contents.{CALLS, head_of, line_at}
+use Rattle.reader.specs.Calls.{line_call}
+use Rattle.reader.specs.declared.calls.Call as script
+use Rattle.reader.specs.declared.contents.Line.{Line}
 use Rattle.reader.specs.Judging.{SCRIPT_MEMORY, verdict_of}
 use Rattle.reader.specs.declared.contents.Head.{Head}
-use Rattle.reader.specs.declared.judging.Verdict.{Verdict}
-use Rattle.reader.proofs.JudgingLaws.{good-head}
-use Rattle.script.specs.Printout.{call_at, lines_from, printout_by, printout_of}
+use Rattle.reader.specs.declared.judging.BadScript.{BadScript}
+use Rattle.reader.proofs.JudgingLaws.{HeadGood, good_script_head}
+use Rattle.script.specs.Run.{asked, called}
+use Rattle.script.specs.Printout.{call_at, calls_from, line_of, lines_from, printout_by, printout_of}
 use Rattle.script.specs.Log.{logged, log_from, log_of}
 use Rattle.script.specs.Promises.{LINE, LineRan, Next, RunOf, Replayed}
-use Rattle.script.specs.declared.run.LineStepped.{LineStepped}
 use Rattle.script.specs.declared.replay.Report.{Report}
 
 -- ## What is left of a list
@@ -56,18 +62,8 @@ none_left p n left inside =
 -- ## The memory
 
 -- a good script's memory is a part of 16,384 bytes
-pub memory-small : (s : List ℕ) (head : Head) → head ≡ head_of s → verdict_of s ≡ Verdict.Good → head.memory ≤ SCRIPT_MEMORY
-memory-small s head is good = subst (λ (h : Head). h.memory ≤ SCRIPT_MEMORY) (sym is) (good-head s good).1.1
-
--- ## The buffer
-
--- a line lies in the buffer, which has room for every line and keeps its length
-module _ (n : ℕ) (out₀ out out' : List ℕ) (short : n ≤ LINE) (room : LINE ≤ length out₀) (e : length out ≡ length out₀) (e' : length out' ≡ length out) where
-  pub line-inside : n ≤ length out'
-  line-inside = omega arith
-
-  pub line-fits : length (take n out') ≡ n
-  line-fits = length-take-le n out' line-inside
+pub memory-small : (s : List ℕ) (head : Head) → head ≡ head_of s → verdict_of s ≡ Ok tt → head.memory ≤ SCRIPT_MEMORY
+memory-small s head is good = subst (λ (h : Head). h.memory ≤ SCRIPT_MEMORY) (sym is) (good_script_head s good).small
 
 -- ## The run
 
@@ -85,12 +81,12 @@ unfolding making.new
 made-size x small = rw (le-leb x.size MEMORY small) refl
 
 -- no call is left
-run_of : (s : List ℕ) (t : Target) (memory : List ℕ) → Underway s [] t memory → verdict_of s ≡ Verdict.Good → RunOf s
+run_of : (s : List ℕ) (t : Target) (memory : List ℕ) → Underway s [] t memory → verdict_of s ≡ Ok tt → RunOf s
 run_of s t memory u good =
     let start : List ℕ = replicate (head_of s).memory 0 in
     let settings : Settings = record { size = (head_of s).memory } in
     let size : (view_of u.new.target).size ≡ (head_of s).memory
-    = ap (λ (x : Target). x.size) u.made.target ∙ made-size settings (omega (arith, (good-head s good).1.1)) in
+    = ap (λ (x : Target). x.size) u.made.target ∙ made-size settings (omega (arith, (good_script_head s good).small)) in
     let ran = u.whole t memory runs.none in
     record {
       new = u.new;
@@ -105,21 +101,33 @@ run_of s t memory u good =
 
 -- ## The loop
 
+-- the calls of so many lines: the first, and the others
+calls-next : (s : List ℕ) (count k : ℕ) (c : Call) → k < count → call_at s k ≡ Some c
+    → calls_from s (count - k) k ≡ c ∷ calls_from s (count - (k + 1)) (k + 1)
+unfolding calls_from
+calls-next s count k c more is =
+    let n : count - k ≡ suc (count - (k + 1)) = omega arith in
+    rw (n, calls_from, is, add-one k) refl
+
+-- the call of a line that was read
+pub called_at : (s : List ℕ) (k : ℕ) (l : Line) (call : script.Call) → line_at s k ≡ Some l → line_call s l ≡ Some call
+    → call_at s k ≡ Some (asked s call)
+called_at s k l call is e = rw (is, e) refl
+
 -- Before call k of so many: what is left of the printout are the lines of the calls that are left, on this state and this memory, and
 -- what is left of the run is their log.
 pub record Going (s : List ℕ) (count k : ℕ) (done : Report) (t : Target) (memory : List ℕ) : Type 0 where
   pub counted : count ≡ (head_of s).count
   pub few : count ≤ CALLS
-  pub within : k ≤ count
   pub inside : done.bytes ≤ length (printout_of s)
   pub short : done.bytes ≤ k * LINE
-  pub left : drop done.bytes (printout_of s) ≡ lines_from s (count - k) k (seen t) memory
-  pub run : Underway s (log_from s (count - k) k (seen t) memory) t memory
+  pub left : drop done.bytes (printout_of s) ≡ lines_from k (calls_from s (count - k) k) (seen t) memory
+  pub run : Underway s (log_from (calls_from s (count - k) k) (seen t) memory) t memory
 
 pub going-begins :
     (s : List ℕ) (head : Head) (begun : Report) (made : NewDone) (memory : List ℕ)
     → head ≡ head_of s
-    → verdict_of s ≡ Verdict.Good
+    → verdict_of s ≡ Ok tt
     → begun.bytes ≡ 0
     → NewMet (record { size = head.memory }) made
     → memory ≡ replicate (head_of s).memory 0
@@ -129,8 +137,7 @@ going-begins s head begun made memory is good none met zeros =
     let all : (head_of s).count - 0 ≡ (head_of s).count = omega arith in
     record {
       counted = ap (λ (h : Head). h.count) is;
-      few = subst (λ (h : Head). h.count ≤ CALLS) (sym is) (good-head s good).1.0;
-      within = omega arith;
+      few = subst (λ (h : Head). h.count ≤ CALLS) (sym is) (good_script_head s good).few;
       inside = rw none (omega arith);
       short = rw none (omega arith);
       left = rw (none, good, met.state, zeros, is, all) refl;
@@ -141,59 +148,54 @@ going-begins s head begun made memory is good none met zeros =
       };
     }
 
+-- `bytes`: the line of call k, which was written
 module _
     (s : List ℕ) (count k : ℕ) (done : Report) (t : Target) (memory : List ℕ) (g : Going s count k done t memory)
-    (r : LineStepped) (memory' out' : List ℕ) (more : k < count)
-    (ran : LineRan (call_at s k) t memory k r memory' out') where
-  line : List ℕ
-  line = take r.length out'
+    (c : Call) (more : k < count) (is : call_at s k ≡ Some c)
+    (w : Writer) (t' : Target) (memory' : List ℕ) (w' : Writer) (begun : w.at ≡ 0) (ran : LineRan c t memory k w t' memory' w')
+    (bytes : List ℕ) (written : bytes ≡ take w'.at w'.out.now) where
+  line : bytes ≡ line_of k (called c (seen t) memory)
+  line = written ∙ ran.line.front ∙ rw begun refl
 
   rest : List ℕ
-  rest = lines_from s (count - (k + 1)) (k + 1) (seen r.target) memory'
+  rest = lines_from (k + 1) (calls_from s (count - (k + 1)) (k + 1)) (seen t') memory'
 
-  first-left : drop done.bytes (printout_of s) ≡ line ++ rest
-  unfolding lines_from line rest
-  first-left =
-      let n : count - k ≡ suc (count - (k + 1)) = omega arith in
-      g.left ∙ rw (n, lines_from, ← add-one k, ran.line, ran.state, ran.memory) refl
+  first-left : drop done.bytes (printout_of s) ≡ bytes ++ rest
+  unfolding lines_from rest
+  first-left = g.left ∙ rw (calls-next s count k c more is, lines_from, ← add-one k, line, ran.state, ran.memory) refl
 
   first-logged :
-      log_from s (count - k) k (seen t) memory
-      ≡ logged (call_at s k) (seen t) memory ∷ log_from s (count - (k + 1)) (k + 1) (seen r.target) memory'
+      log_from (calls_from s (count - k) k) (seen t) memory
+      ≡ logged c (seen t) memory ∷ log_from (calls_from s (count - (k + 1)) (k + 1)) (seen t') memory'
   unfolding log_from
-  first-logged =
-      let n : count - k ≡ suc (count - (k + 1)) = omega arith in
-      rw (n, log_from, ← add-one k, ran.state, ran.memory) refl
+  first-logged = rw (calls-next s count k c more is, log_from, ran.state, ran.memory) refl
+
+  short-line : length bytes ≤ LINE
+  short-line = rw line ran.line.short
 
   -- the line of call k may be handed over next
-  pub going_next : length (take r.length out') ≡ r.length → Next s done (take r.length out')
-  unfolding line
-  going_next e = record {
-    next = piece-next (printout_of s) done.bytes line rest first-left;
-    room = omega (arith, e, ran.short, g.short, g.few, more);
+  pub going_next : Next s done bytes
+  going_next = record {
+    next = piece-next (printout_of s) done.bytes bytes rest first-left;
+    room = omega (arith, short-line, g.short, g.few, more);
   }
 
-  pub going_on :
-      (done' : Report)
-      → length (take r.length out') ≡ r.length
-      → done'.bytes ≡ done.bytes + length (take r.length out')
-      → Going s count r.next done' r.target memory'
-  unfolding line rest
-  going_on done' e d = rw ran.next (record {
+  pub going_on : (done' : Report) → done'.bytes ≡ done.bytes + length bytes → Going s count (k + 1) done' t' memory'
+  unfolding rest
+  going_on done' d = record {
     counted = g.counted;
     few = g.few;
-    within = omega arith;
-    inside = rw d (piece_inside (printout_of s) done.bytes line rest first-left g.inside);
-    short = omega (arith, d, e, ran.short, g.short);
-    left = rw d (rest-left (printout_of s) done.bytes line rest first-left);
+    inside = rw d (piece_inside (printout_of s) done.bytes bytes rest first-left g.inside);
+    short = omega (arith, d, short-line, g.short);
+    left = rw d (rest-left (printout_of s) done.bytes bytes rest first-left);
     run = record {
       new = g.run.new;
       made = g.run.made;
-      whole = λ t' end later.
-          g.run.whole t' end
-          (subst (λ (log : List runs.Line). runs.Ran t memory log t' end) (sym first-logged) (runs.next ran.step later));
+      whole = λ end memory'' later.
+          g.run.whole end memory''
+          (subst (λ (log : List runs.Line). runs.Ran t memory log end memory'') (sym first-logged) (runs.next ran.step later));
     };
-  })
+  }
 
 -- no call is left, and nothing of the printout
 pub going-ends :
@@ -201,56 +203,57 @@ pub going-ends :
     → Going s count k done t memory
     → count ≤ k
     → Replayed s done
-unfolding lines_from log_from
+unfolding calls_from lines_from log_from
 going-ends s count k done t memory g last =
     let n : count - k ≡ 0 = omega arith in
-    let log : log_from s (count - k) k (seen t) memory ≡ [] = rw (n, log_from) refl in
+    let none : calls_from s (count - k) k ≡ [] = rw (n, calls_from) refl in
+    let log : log_from (calls_from s (count - k) k) (seen t) memory ≡ [] = rw (none, log_from) refl in
     record {
-      printed = none_left (printout_of s) done.bytes (g.left ∙ rw (n, lines_from) refl) g.inside;
+      printed = none_left (printout_of s) done.bytes (g.left ∙ rw (none, lines_from) refl) g.inside;
       ran = run_of s t memory (subst (λ (left : List runs.Line). Underway s left t memory) log g.run);
     }
 
 -- ## A bad file
 
 -- its one line
-pub head-printout : (s : List ℕ) → verdict_of s ≡ Verdict.BadHead → printout_of s ≡ bytes_of "BAD_SCRIPT HEAD\n"
+pub head-printout : (s : List ℕ) → verdict_of s ≡ Err BadScript.Head → printout_of s ≡ bytes_of "BAD_SCRIPT HEAD\n"
 unfolding printout_of
-head-printout s bad = ap (λ (v : Verdict). printout_by v s) bad
+head-printout s bad = ap (λ (v : Result Unit BadScript). printout_by v s) bad
 
 pub call-printout :
     (s : List ℕ) (n : ℕ)
-    → verdict_of s ≡ Verdict.BadCall n
+    → verdict_of s ≡ Err (BadScript.Call n)
     → printout_of s ≡ bytes_of "BAD_SCRIPT" ++ fields_of (n ∷ []) ++ bytes_of "\n"
 unfolding printout_of
-call-printout s n bad = ap (λ (v : Verdict). printout_by v s) bad
+call-printout s n bad = ap (λ (v : Result Unit BadScript). printout_by v s) bad
 
 -- with it handed over, all is done: no call is run
-pub head-replayed : (s : List ℕ) (r : Report) → verdict_of s ≡ Verdict.BadHead → r.bytes ≡ length (printout_of s) → Replayed s r
+pub head-replayed : (s : List ℕ) (r : Report) → verdict_of s ≡ Err BadScript.Head → r.bytes ≡ length (printout_of s) → Replayed s r
 head-replayed s r bad printed = record {
   printed = printed;
   ran = λ good. let z : ◌≡◌ {A = ℕ} 0 1 = cc in absurd (omega arith);
 }
 
-pub call-replayed : (s : List ℕ) (n : ℕ) (r : Report) → verdict_of s ≡ Verdict.BadCall n → r.bytes ≡ length (printout_of s) → Replayed s r
+pub call-replayed : (s : List ℕ) (n : ℕ) (r : Report) → verdict_of s ≡ Err (BadScript.Call n) → r.bytes ≡ length (printout_of s) → Replayed s r
 call-replayed s n r bad printed = record {
   printed = printed;
   ran = λ good. let z : ◌≡◌ {A = ℕ} 0 1 = cc in absurd (omega arith);
 }
 
 module _
-    (s : List ℕ) (begun : Report) (text b b' : List ℕ) (n w : ℕ)
-    (none : begun.bytes ≡ 0) (is : printout_of s ≡ text) (small : w ≤ LINE) (wrote : Wrote b 0 text w b' n) where
+    (s : List ℕ) (begun : Report) (text : List ℕ) (most : ℕ) (w w' : Writer) (bytes : List ℕ)
+    (none : begun.bytes ≡ 0) (is : printout_of s ≡ text) (small : most ≤ LINE) (start : w.at ≡ 0) (wrote : Wrote w text most w')
+    (written : bytes ≡ take w'.at w'.out.now) where
+  whole-line : bytes ≡ text
+  whole-line = written ∙ wrote.front ∙ rw start refl
+
   -- written into a buffer, it may be handed over whole
-  pub whole-next : Next s begun (take n b')
-  whole-next =
-      let line : take n b' ≡ text = wrote.front in
-      record {
-        next = rw (none, is, line) (take-length text);
-        room = rw (none, line) (omega (arith, wrote.short, small));
-      }
+  pub whole-next : Next s begun bytes
+  whole-next = record {
+    next = rw (none, is, whole-line) (take-length text);
+    room = rw (none, whole-line) (omega (arith, wrote.short, small));
+  }
 
   -- and nothing is left
-  pub whole-done : (done : Report) → done.bytes ≡ begun.bytes + length (take n b') → done.bytes ≡ length (printout_of s)
-  whole-done done e =
-      let line : take n b' ≡ text = wrote.front in
-      e ∙ rw (none, is, line) (omega arith)
+  pub whole-done : (done : Report) → done.bytes ≡ begun.bytes + length bytes → done.bytes ≡ length (printout_of s)
+  whole-done done e = e ∙ rw (none, is, whole-line) (omega arith)

@@ -1,5 +1,5 @@
 -- What the functions that run a script promise.
-use Rattle.std.specs.Prelude.{ℕ, ◌+◌, ◌*◌, ◌≤◌, ◌≡◌, List, ◌++◌, length, take, drop, replicate}
+use Rattle.std.specs.Prelude.{ℕ, ◌+◌, ◌*◌, ◌≤◌, ◌≡◌, List, ◌++◌, Ok, length, take, drop, replicate}
 use Rattle.state.specs.Soundness.{seen}
 use Rattle.state.specs.declared.layout.Target.{Target}
 use Rattle.portals.specs.Calls.{Call}
@@ -8,15 +8,13 @@ use Rattle.portals.specs.declared.answers.NewDone.{NewDone}
 use Rattle.conservation.specs.Runs as runs
 use Rattle.conservation.specs.Conserved.{Conserved}
 use Rattle.text.specs.Writing.{Wrote}
+use Rattle.text.specs.declared.writing.Writer.{Writer}
 use Rattle.reader.specs.Contents.{CALLS, head_of}
 use Rattle.reader.specs.Judging.{SCRIPT_MEMORY, verdict_of}
-use Rattle.reader.specs.declared.judging.Verdict.TheVariants as Verdict
 use Rattle.printer.specs.Said.{SAID, said}
 use Rattle.script.specs.Run.{called}
 use Rattle.script.specs.Printout.{line_of, printout_of}
 use Rattle.script.specs.Log.{logged, log_of}
-use Rattle.script.specs.declared.run.Stepped.{Stepped}
-use Rattle.script.specs.declared.run.LineStepped.{LineStepped}
 use Rattle.script.specs.declared.replay.Report.{Report}
 
 -- ## Sizes
@@ -38,24 +36,22 @@ PRINTOUT = CALLS * LINE
 
 -- A call was run on a target and a memory: a step of a list of calls, with the answer that its line shows; the state and the memory
 -- that it leaves; and its line, but for the newline, in the buffer.
-pub record CallRan (c : Call) (t : Target) (m : List ℕ) (k : ℕ) (out : List ℕ) (r : Stepped) (m' out' : List ℕ) : Type 0 where
-  pub step : runs.Stepped t m (logged c (seen t) m) r.target m'
-  pub state : seen r.target ≡ (called c (seen t) m).state
+pub record CallRan (c : Call) (t : Target) (m : List ℕ) (k : ℕ) (w : Writer) (t' : Target) (m' : List ℕ) (w' : Writer) : Type 0 where
+  pub step : runs.Stepped t m (logged c (seen t) m) t' m'
+  pub state : seen t' ≡ (called c (seen t) m).state
   pub memory : m' ≡ (called c (seen t) m).memory
-  pub line : Wrote out 0 (said k (called c (seen t) m).answer ++ (called c (seen t) m).shown) TEXT out' r.length
+  pub line : Wrote w (said k (called c (seen t) m).answer ++ (called c (seen t) m).shown) TEXT w'
 
 -- a call that is not lent the memory: what holds on every memory, which it leaves
-pub record RanOn (c : Call) (t : Target) (k : ℕ) (out : List ℕ) (r : Stepped) (out' : List ℕ) : Type 0 where
-  pub on : (m : List ℕ) → CallRan c t m k out r m out'
+pub record RanOn (c : Call) (t : Target) (k : ℕ) (w : Writer) (t' : Target) (w' : Writer) : Type 0 where
+  pub on : (m : List ℕ) → CallRan c t m k w t' m w'
 
--- a call with its whole line: the first bytes of the buffer are that line and nothing else; the place of the next line is one further
-pub record LineRan (c : Call) (t : Target) (m : List ℕ) (k : ℕ) (r : LineStepped) (m' out' : List ℕ) : Type 0 where
-  pub step : runs.Stepped t m (logged c (seen t) m) r.target m'
-  pub state : seen r.target ≡ (called c (seen t) m).state
+-- a call with its whole line in the buffer
+pub record LineRan (c : Call) (t : Target) (m : List ℕ) (k : ℕ) (w : Writer) (t' : Target) (m' : List ℕ) (w' : Writer) : Type 0 where
+  pub step : runs.Stepped t m (logged c (seen t) m) t' m'
+  pub state : seen t' ≡ (called c (seen t) m).state
   pub memory : m' ≡ (called c (seen t) m).memory
-  pub line : take r.length out' ≡ line_of k (called c (seen t) m)
-  pub short : r.length ≤ LINE
-  pub next : r.next ≡ k + 1
+  pub line : Wrote w (line_of k (called c (seen t) m)) LINE w'
 
 -- ## The printout
 
@@ -79,4 +75,4 @@ pub record RunOf (s : List ℕ) : Type 0 where
 -- A script was judged, and run if it is good: its whole printout came up to be handed over.
 pub record Replayed (s : List ℕ) (r : Report) : Type 0 where
   pub printed : r.bytes ≡ length (printout_of s)
-  pub ran : verdict_of s ≡ Verdict.Good → RunOf s
+  pub ran : verdict_of s ≡ Ok tt → RunOf s

@@ -1,18 +1,19 @@
 // Document 01, "Script and printout": a whole script, judged, run on a new target with a memory of zeros, and printed line by line.
-ghost use Rattle.std.specs.Prelude.{◌≡◌, ◌+◌, ◌≤◌, length, replicate};
+ghost use Rattle.std.specs.Prelude.{◌≡◌, Ok, Err, ◌+◌, ◌≤◌, length, replicate};
 ghost use Rattle.reader.specs.Contents.{head_of};
 ghost use Rattle.reader.specs.Judging.{verdict_of};
-ghost use Rattle.reader.specs.declared.judging.Verdict.TheVariants as Verdict;
+ghost use Rattle.reader.specs.declared.judging.BadScript.TheVariants as BadScript;
 ghost use Rattle.script.specs.Printout.{printout_of};
 ghost use Rattle.script.specs.Promises.{LINE, Next, Replayed};
 
 use crate::run;
 use portals::making;
-use reader::judging::Verdict;
-use reader::{contents, judging};
+use reader::judging::BadScript;
+use reader::reading::Reader;
+use reader::{calls, contents, judging};
 use state::layout::Settings;
 use std::io::Stdout;
-use text::{decimals, writing};
+use text::writing::Writer;
 
 // How far a printout is written.
 #[derive(Clone, Copy)]
@@ -53,22 +54,24 @@ fn write_next(stdout: Stdout, script: &[u8], done: Report, bytes: &[u8]) -> Repo
 
 // A bad head.
 fn report_head(stdout: Stdout, script: &[u8], begun: Report, out: &mut [u8]) -> Report
-    requires { (verdict_of script.now ≡ Verdict.BadHead) × ((begun.bytes ≡ 0) × (LINE ≤ length out.old)) }
+    requires { (verdict_of script.now ≡ Err BadScript.Head) × ((begun.bytes ≡ 0) × (LINE ≤ length out.old)) }
     ensures { result.bytes ≡ length (printout_of script.now) }
 {
-    let n = writing::put_bytes(out, 0, b"BAD_SCRIPT HEAD\n");
-    write_next(stdout, script, begun, &out[..n])
+    let mut w = Writer::new(out);
+    w.put_bytes(b"BAD_SCRIPT HEAD\n");
+    write_next(stdout, script, begun, w.written())
 }
 
 // A bad call.
 fn report_call(stdout: Stdout, script: &[u8], begun: Report, call: usize, out: &mut [u8]) -> Report
-    requires { (verdict_of script.now ≡ Verdict.BadCall call) × ((begun.bytes ≡ 0) × (LINE ≤ length out.old)) }
+    requires { (verdict_of script.now ≡ Err (BadScript.Call call)) × ((begun.bytes ≡ 0) × (LINE ≤ length out.old)) }
     ensures { result.bytes ≡ length (printout_of script.now) }
 {
-    let a = writing::put_bytes(out, 0, b"BAD_SCRIPT");
-    let b = decimals::put_fields(out, a, &[call as u64]);
-    let n = writing::put_byte(out, b, b'\n');
-    write_next(stdout, script, begun, &out[..n])
+    let mut w = Writer::new(out);
+    w.put_bytes(b"BAD_SCRIPT");
+    w.put_fields(&[call as u64]);
+    w.put_byte(b'\n');
+    write_next(stdout, script, begun, w.written())
 }
 
 // Runs a good script on a memory. The line of a call goes out before the next call.
@@ -79,30 +82,28 @@ fn run_lines(
     memory: &mut [u8],
     out: &mut [u8],
 ) -> Report
-    requires { (verdict_of script.now ≡ Verdict.Good) × ((begun.bytes ≡ 0) × ((memory.old ≡ replicate (head_of script.now).memory 0) × (LINE ≤ length out.old))) }
+    requires { (verdict_of script.now ≡ Ok tt) × ((begun.bytes ≡ 0) × ((memory.old ≡ replicate (head_of script.now).memory 0) × (LINE ≤ length out.old))) }
     ensures { Replayed script.now result }
 {
     let head = contents::head_of(script);
-    let made = making::new(Settings { size: head.memory });
-    let count = head.count as usize;
-    let mut t = made.target;
+    let mut t = making::new(Settings { size: head.memory }).target;
+    let mut reader = Reader::open(script);
     let mut done = begun;
-    let mut k: usize = 0;
-    while k < count {
-        let s = run::run_line(t, memory, script, k, out);
-        let target = s.target;
-        t = target;
-        let n = s.length;
-        done = write_next(stdout, script, done, &out[..n]);
-        let next = s.next;
-        k = next;
+    for k in 0..head.count as usize {
+        let Some(line) = reader.read_line() else {
+            unreachable!()
+        };
+        let call = calls::call_of(script, line);
+        let mut w = Writer::new(out);
+        t = run::run_line(t, memory, script, call, k, &mut w);
+        done = write_next(stdout, script, done, w.written());
     }
     done
 }
 
 // Runs a good script: its memory is the leading part of 16,384 zero bytes.
 fn run_good(stdout: Stdout, script: &[u8], begun: Report, out: &mut [u8]) -> Report
-    requires { (verdict_of script.now ≡ Verdict.Good) × ((begun.bytes ≡ 0) × (LINE ≤ length out.old)) }
+    requires { (verdict_of script.now ≡ Ok tt) × ((begun.bytes ≡ 0) × (LINE ≤ length out.old)) }
     ensures { Replayed script.now result }
 {
     let head = contents::head_of(script);
@@ -121,8 +122,8 @@ pub fn replay(stdout: Stdout, script: &[u8]) -> Report
         written: true,
     };
     match judging::judge(script) {
-        Verdict::Good => run_good(stdout, script, begun, &mut out),
-        Verdict::BadHead => report_head(stdout, script, begun, &mut out),
-        Verdict::BadCall(call) => report_call(stdout, script, begun, call, &mut out),
+        Ok(()) => run_good(stdout, script, begun, &mut out),
+        Err(BadScript::Head) => report_head(stdout, script, begun, &mut out),
+        Err(BadScript::Call(call)) => report_call(stdout, script, begun, call, &mut out),
     }
 }

@@ -1,8 +1,9 @@
 // Text written into a buffer, piece by piece.
-ghost use Rattle.std.specs.Prelude.{◌≡◌, [], ◌∷◌, ◌+◌, ◌≤◌, length};
+ghost use Rattle.std.specs.Prelude.{◌≡◌, [], ◌∷◌, ◌+◌, ◌≤◌, length, take};
 ghost use Rattle.text.specs.Writing.{Wrote, Room};
 
 // A buffer, and the place behind what was written.
+#[derive(Drop)]
 pub struct Writer<'a> {
     pub out: &'a mut [u8],
     pub at: usize,
@@ -16,6 +17,15 @@ impl<'a> Writer<'a> {
         ensures start { result.at ≡ 0 }
     {
         Writer { out, at: 0 }
+    }
+
+    // What was written, and what stood before its start.
+    pub fn written(&self) -> &[u8]
+        requires { self.now.at ≤ length self.now.out.now }
+        ensures { result.now ≡ take self.now.at self.now.out.now }
+    {
+        let out = &*self.out;
+        &out[..self.at]
     }
 
     // Writes bytes as they are.

@@ -2,14 +2,14 @@ use mathlib.Core.Path.{sym, ap, ◌∙◌}
 use lib.ListN.{replicate}
 use Rattle.reader.specs.Judging.{SCRIPT_MEMORY}
 use Rattle.reader.specs.declared.contents.Head.{Head}
-use Rattle.reader.proofs.JudgingLaws.{good-head}
+use Rattle.reader.proofs.JudgingLaws.{good_script_head}
 use Rattle.script.proofs.ZeroLaws.{zero-part, zero-length, zeros-length}
 use Rattle.script.proofs.ReplayLaws.{memory-small}
 use native.Mathlib.Omega.{arith}
 use Rattle.script.proofs.replay.run_good.Goals as goal
 
 pub head_of-head-requires : goal.head_of-head-requires
-head_of-head-requires c = (good-head c.args.script.now c.requires.0).0
+head_of-head-requires c = (good_script_head c.args.script.now c.requires.0).whole
 
 pub slice_bounds-memory-end : goal.slice_bounds-memory-end
 slice_bounds-memory-end c =

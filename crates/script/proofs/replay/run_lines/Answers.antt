@@ -1,48 +1,59 @@
 use Prim.Native.Nat.{◌<◌}
-use Rattle.reader.specs.Contents.{head_of}
-use mathlib.Core.Path.{refl, ◌∙◌}
-use Rattle.reader.proofs.JudgingLaws.{good-head, good-calls}
-use Rattle.script.proofs.ReplayLaws.{line-fits, going-begins, going_next, going_on, going-ends}
+use mathlib.Core.Path.{◌≡◌}
 use native.Mathlib.Omega.{arith}
+use Rattle.std.specs.Prelude.{Some, None}
+use Rattle.reader.specs.Contents.{CALLS, head_of, line_at}
+use Rattle.reader.proofs.ContentsLaws.{place_next}
+use Rattle.reader.proofs.JudgingLaws.{good_script_head, formed_there, some_there}
+use Rattle.script.proofs.ReplayLaws.{called_at, going-begins, going_next, going_on, going-ends}
 use Rattle.script.proofs.replay.run_lines.Goals as goal
 
 pub head_of-head-requires : goal.head_of-head-requires
-head_of-head-requires c = (good-head c.args.script.now c.requires.0).0
+head_of-head-requires c = (good_script_head c.args.script.now c.requires.0).whole
 
 pub loop-k-init : goal.loop-k-init
 loop-k-init c =
     let begins =
-    going-begins c.args.script.now c.head_of-head.result c.args.begun c.new-made.result c.args.memory.now
-    c.head_of-head.ensures c.requires.0 c.requires.1.0 c.new-made.ensures c.requires.1.1.0 in
-    (refl, (refl, begins))
+    going-begins c.args.script.now c.head_of-head.result c.args.begun c.new.result c.args.memory.now
+    c.head_of-head.ensures c.requires.0 c.requires.1.0 c.new.ensures c.requires.1.1.0 in
+    (cc, (c.open-reader.ensures.place, begins))
 
-pub run_line-s-requires : goal.run_line-s-requires
-run_line-s-requires c =
-    let l = c.loop-k in
-    let inside : l.k < (head_of c.args.script.now).count = omega (arith, c.loop-k-test.true, l.invariant.1.1.counted) in
-    (good-calls c.args.script.now l.k c.requires.0 inside, omega (arith, c.requires.1.1.1, l.invariant.1.0))
+pub unreachable-requires : goal.unreachable-requires
+unreachable-requires c =
+    let s = c.args.script.now in
+    let k = c.loop-k.k in
+    let inside : k < (head_of s).count = omega (arith, c.loop-k-test.true, c.loop-k.invariant.1.1.counted) in
+    let none : line_at s k ≡ None = cc (c.read_line.ensures.line, c.in_default.is, c.loop-k.invariant.0, c.loop-k.invariant.1.0) in
+    some_there s c.requires.0 k inside none
+
+pub call_of-call-requires : goal.call_of-call-requires
+call_of-call-requires c =
+    let s = c.args.script.now in
+    let k = c.loop-k.k in
+    let inside : k < (head_of s).count = omega (arith, c.loop-k-test.true, c.loop-k.invariant.1.1.counted) in
+    let is : line_at s k ≡ Some c.in-Some.line = cc (c.read_line.ensures.line, c.in-Some.is, c.loop-k.invariant.0, c.loop-k.invariant.1.0) in
+    formed_there s c.requires.0 k c.in-Some.line inside is
 
 pub write_next-done-requires : goal.write_next-done-requires
 write_next-done-requires c =
+    let s = c.args.script.now in
     let l = c.loop-k in
-    let step = c.run_line-s in
-    let fits =
-    line-fits step.result.length c.args.out.now l.out step.new.out
-    step.ensures.short c.requires.1.1.1 l.invariant.1.0 step.auto.out in
-    going_next c.args.script.now _ l.k l.done l.t l.memory l.invariant.1.1 step.result _ _
-    c.loop-k-test.true step.ensures fits
+    let is : line_at s l.k ≡ Some c.in-Some.line = cc (c.read_line.ensures.line, c.in-Some.is, l.invariant.0, l.invariant.1.0) in
+    going_next s _ l.k l.done l.t l.memory l.invariant.1.1 _ c.loop-k-test.true
+    (called_at s l.k c.in-Some.line c.call_of-call.result is c.call_of-call.ensures.call) _ _ _ _ c.new-w.ensures.start
+    c.run_line-t.ensures _ c.written.ensures
 
 pub loop-k-preserved : goal.loop-k-preserved
 loop-k-preserved c =
+    let s = c.args.script.now in
     let l = c.loop-k in
-    let step = c.run_line-s in
-    let fits =
-    line-fits step.result.length c.args.out.now l.out step.new.out
-    step.ensures.short c.requires.1.1.1 l.invariant.1.0 step.auto.out in
+    let is : line_at s l.k ≡ Some c.in-Some.line = cc (c.read_line.ensures.line, c.in-Some.is, l.invariant.0, l.invariant.1.0) in
     let on =
-    going_on c.args.script.now _ l.k l.done l.t l.memory l.invariant.1.1 step.result _ _
-    c.loop-k-test.true step.ensures c.write_next-done.result fits c.write_next-done.ensures in
-    (step.auto.memory ∙ l.invariant.0, (step.auto.out ∙ l.invariant.1.0, on))
+    going_on s _ l.k l.done l.t l.memory l.invariant.1.1 _ c.loop-k-test.true
+    (called_at s l.k c.in-Some.line c.call_of-call.result is c.call_of-call.ensures.call) _ _ _ _ c.new-w.ensures.start
+    c.run_line-t.ensures _ c.written.ensures c.write_next-done.result c.write_next-done.ensures in
+    let few : l.k < CALLS = omega (arith, c.loop-k-test.true, l.invariant.1.1.few) in
+    (cc, (cc (c.read_line.ensures.place, l.invariant.1.0, place_next l.k few), on))
 
 pub returns : goal.returns
 returns c =

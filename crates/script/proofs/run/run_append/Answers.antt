@@ -9,4 +9,4 @@ pub returns : goal.returns
 returns c =
     let met = c.append-d.ensures in
     ran (Calls.append c.args.e) c.args.t c.args.k _ _ _ (λ v. early.append v c.args.e) _ (λ v m. refl) met
-    (λ m. runs.append c.append-d.result met) c.append_said-length.ensures
+    (λ m. runs.append c.append-d.result met) c.append_said.ensures

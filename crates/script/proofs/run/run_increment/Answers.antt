@@ -9,4 +9,4 @@ pub returns : goal.returns
 returns c =
     let met = c.increment-d.ensures in
     ran (Calls.increment c.args.x) c.args.t c.args.k _ _ _ (λ v. counters.increment v c.args.x) _ (λ v m. refl) met
-    (λ m. runs.increment c.increment-d.result met) c.plain_said-length.ensures
+    (λ m. runs.increment c.increment-d.result met) c.plain_said.ensures

@@ -3,5 +3,5 @@ use Rattle.script.proofs.run.run_put.Goals as goal
 
 pub returns : goal.returns
 returns c =
-    put-ran c.args.t c.args.memory.now c.args.q c.args.k _ c.put-d.result _ _ c.args.payload.now _ c.put-d.ensures
-    c.request_said-length.ensures
+    put-ran c.args.t c.args.memory.now c.args.q c.args.k _ c.put-d.result _ c.args.payload.now _ c.put-d.ensures
+    c.request_said.ensures

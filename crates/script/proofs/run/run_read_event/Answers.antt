@@ -9,4 +9,4 @@ pub returns : goal.returns
 returns c =
     let met = c.read_event-d.ensures in
     ran Calls.read_event c.args.t c.args.k _ _ _ (λ v. events.read_event v) _ (λ v m. refl) met
-    (λ m. runs.read_event c.read_event-d.result met) c.event_said-length.ensures
+    (λ m. runs.read_event c.read_event-d.result met) c.event_said.ensures

@@ -9,4 +9,4 @@ pub returns : goal.returns
 returns c =
     let met = c.search-d.ensures in
     ran (Calls.search c.args.e) c.args.t c.args.k _ _ _ (λ v. early.search v c.args.e) _ (λ v m. refl) met
-    (λ m. runs.search c.search-d.result met) c.search_said-length.ensures
+    (λ m. runs.search c.search-d.result met) c.search_said.ensures

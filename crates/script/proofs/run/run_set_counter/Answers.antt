@@ -9,4 +9,4 @@ pub returns : goal.returns
 returns c =
     let met = c.set_counter-d.ensures in
     ran (Calls.set_counter c.args.x) c.args.t c.args.k _ _ _ (λ v. counters.set_counter v c.args.x) _ (λ v m. refl) met
-    (λ m. runs.set_counter c.set_counter-d.result met) c.plain_said-length.ensures
+    (λ m. runs.set_counter c.set_counter-d.result met) c.plain_said.ensures

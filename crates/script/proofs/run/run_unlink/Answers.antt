@@ -9,4 +9,4 @@ pub returns : goal.returns
 returns c =
     let met = c.unlink-d.ensures in
     ran (Calls.unlink c.args.handle) c.args.t c.args.k _ _ _ (λ v. early.unlink v c.args.handle) _ (λ v m. refl) met
-    (λ m. runs.unlink c.unlink-d.result met) c.plain_said-length.ensures
+    (λ m. runs.unlink c.unlink-d.result met) c.plain_said.ensures
