@@ -69,16 +69,20 @@ pub fn request_reply(a: Result<RequestAnswer, Refusal>) -> Reply
     ensures { result ≡ reply_of (request_answer a) }
 {
     match a {
-        Ok(RequestAnswer::Priority {
-            length,
-            offset,
-            ack,
-        }) => reply(layout::PRIORITY, ack as u32, length as u64, offset),
-        Ok(RequestAnswer::Overflow {
-            length,
-            offset,
-            ack,
-        }) => reply(layout::OVERFLOW, ack as u32, length as u64, offset),
+        Ok(
+            RequestAnswer::Priority {
+                length,
+                offset,
+                ack,
+            },
+        ) => reply(layout::PRIORITY, ack as u32, length as u64, offset),
+        Ok(
+            RequestAnswer::Overflow {
+                length,
+                offset,
+                ack,
+            },
+        ) => reply(layout::OVERFLOW, ack as u32, length as u64, offset),
         Ok(RequestAnswer::Dropped(ack)) => reply(layout::DROPPED, ack as u32, 0, 0),
         Ok(RequestAnswer::PermissionViolation(ack)) => reply(layout::PERM, ack as u32, 0, 0),
         Ok(RequestAnswer::OperationViolation(ack)) => reply(layout::OP, ack as u32, 0, 0),

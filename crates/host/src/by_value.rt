@@ -42,7 +42,12 @@ pub fn search(t: Target, e: Entry) -> Done<Result<usize, Refusal>>
     Done { target, answer }
 }
 
-pub fn put(t: Target, memory: &mut [u8], q: Request, payload: &[u8]) -> Done<Result<RequestAnswer, Refusal>>
+pub fn put(
+    t: Target,
+    memory: &mut [u8],
+    q: Request,
+    payload: &[u8],
+) -> Done<Result<RequestAnswer, Refusal>>
     ensures { PutMet t memory.old q payload.now result memory.new }
 {
     let mut target = t;
@@ -50,7 +55,12 @@ pub fn put(t: Target, memory: &mut [u8], q: Request, payload: &[u8]) -> Done<Res
     Done { target, answer }
 }
 
-pub fn get(t: Target, memory: &[u8], q: Request, reply: &mut [u8]) -> Done<Result<RequestAnswer, Refusal>>
+pub fn get(
+    t: Target,
+    memory: &[u8],
+    q: Request,
+    reply: &mut [u8],
+) -> Done<Result<RequestAnswer, Refusal>>
     ensures { GetMet t memory.now q reply.old result reply.new }
 {
     let mut target = t;

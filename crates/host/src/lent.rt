@@ -45,7 +45,12 @@ pub fn search(t: &mut Target, e: Entry) -> Result<usize, Refusal>
     r.answer
 }
 
-pub fn put(t: &mut Target, memory: &mut [u8], q: Request, payload: &[u8]) -> Result<RequestAnswer, Refusal>
+pub fn put(
+    t: &mut Target,
+    memory: &mut [u8],
+    q: Request,
+    payload: &[u8],
+) -> Result<RequestAnswer, Refusal>
     ensures { PutMet t.old memory.old q payload.now (record { target = t.new; answer = result }) memory.new }
 {
     let r = by_value::put(*t, memory, q, payload);
@@ -53,7 +58,12 @@ pub fn put(t: &mut Target, memory: &mut [u8], q: Request, payload: &[u8]) -> Res
     r.answer
 }
 
-pub fn get(t: &mut Target, memory: &[u8], q: Request, reply: &mut [u8]) -> Result<RequestAnswer, Refusal>
+pub fn get(
+    t: &mut Target,
+    memory: &[u8],
+    q: Request,
+    reply: &mut [u8],
+) -> Result<RequestAnswer, Refusal>
     ensures { GetMet t.old memory.now q reply.old (record { target = t.new; answer = result }) reply.new }
 {
     let r = by_value::get(*t, memory, q, reply);

@@ -7,6 +7,7 @@ use std::io;
 use std::io::Stdout;
 
 // The target that is lent, and the one that is handed over by value, each with a memory.
+#[derive(Drop)]
 pub struct Pair {
     stdout: Stdout,
     lent: Target,

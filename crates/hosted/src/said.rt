@@ -18,7 +18,12 @@ fn say(stdout: Stdout, way: &[u8], w: &Writer) -> io::Result<()>
     stdout.write_all(b"\n")
 }
 
-pub fn say_append(stdout: Stdout, way: &[u8], k: usize, a: Result<Appended, Refusal>) -> io::Result<()> {
+pub fn say_append(
+    stdout: Stdout,
+    way: &[u8],
+    k: usize,
+    a: Result<Appended, Refusal>,
+) -> io::Result<()> {
     let mut out = [0u8; 400];
     let mut w = Writer::new(&mut out);
     said::append_said(&mut w, k, a);
@@ -42,7 +47,12 @@ fn say_word(stdout: Stdout, way: &[u8], k: usize, word: &[u8], numbers: &[u64]) 
     say(stdout, way, &w)
 }
 
-pub fn say_put(stdout: Stdout, way: &[u8], k: usize, a: Result<RequestAnswer, Refusal>) -> io::Result<()> {
+pub fn say_put(
+    stdout: Stdout,
+    way: &[u8],
+    k: usize,
+    a: Result<RequestAnswer, Refusal>,
+) -> io::Result<()> {
     let mut out = [0u8; 400];
     let mut w = Writer::new(&mut out);
     said::request_said(&mut w, k, a);
@@ -64,7 +74,12 @@ pub fn say_ready(stdout: Stdout, way: &[u8], k: usize, a: Result<bool, Refusal>)
     }
 }
 
-pub fn say_poll(stdout: Stdout, way: &[u8], k: usize, a: Result<Option<usize>, Refusal>) -> io::Result<()> {
+pub fn say_poll(
+    stdout: Stdout,
+    way: &[u8],
+    k: usize,
+    a: Result<Option<usize>, Refusal>,
+) -> io::Result<()> {
     match a {
         Ok(Some(place)) => say_word(stdout, way, k, b" REACHED", &[place as u64]),
         Ok(None) => say_word(stdout, way, k, b" NONE_REACHED", &[]),

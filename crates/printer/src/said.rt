@@ -82,16 +82,20 @@ pub fn request_said(w: &mut Writer, k: usize, a: Result<RequestAnswer, Refusal>)
     ensures { Wrote w.old (said k (request_answer a)) SAID w.new }
 {
     match a {
-        Ok(RequestAnswer::Priority {
-            length,
-            offset,
-            ack,
-        }) => put_said(w, k, b" PRIORITY", &[length as u64, offset, ack as u64]),
-        Ok(RequestAnswer::Overflow {
-            length,
-            offset,
-            ack,
-        }) => put_said(w, k, b" OVERFLOW", &[length as u64, offset, ack as u64]),
+        Ok(
+            RequestAnswer::Priority {
+                length,
+                offset,
+                ack,
+            },
+        ) => put_said(w, k, b" PRIORITY", &[length as u64, offset, ack as u64]),
+        Ok(
+            RequestAnswer::Overflow {
+                length,
+                offset,
+                ack,
+            },
+        ) => put_said(w, k, b" OVERFLOW", &[length as u64, offset, ack as u64]),
         Ok(RequestAnswer::Dropped(ack)) => put_said(w, k, b" DROPPED", &[ack as u64]),
         Ok(RequestAnswer::PermissionViolation(ack)) => put_said(w, k, b" PERM", &[ack as u64]),
         Ok(RequestAnswer::OperationViolation(ack)) => put_said(w, k, b" OP", &[ack as u64]),
