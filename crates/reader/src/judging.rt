@@ -35,19 +35,10 @@ fn good_head(s: &[u8]) -> bool
         return false;
     }
     let h = contents::head_of(s);
-    if !good_fields(h) {
-        return false;
-    }
     let count = h.count as usize;
     let bodies = contents::HEAD + 8 * count;
     let n = s.len();
-    if FILE < n {
-        return false;
-    }
-    if n < bodies {
-        return false;
-    }
-    n - bodies <= contents::body_lengths(s, count)
+    good_fields(h) && n <= FILE && bodies <= n && n - bodies <= contents::body_lengths(s, count)
 }
 
 // The zeros of a put's or get's body.
@@ -62,22 +53,17 @@ fn good_entry(s: &[u8], l: Line) -> bool
     requires { l.place + l.length ≤ length s.now }
     ensures { result ≡ good_entry s.now l }
 {
-    if l.length != 56 {
-        return false;
-    }
-    let at = l.place as usize;
-    s[at + 3] == 0
+    l.length == 56 && s[l.place as usize + 3] == 0
 }
 
 fn good_put(s: &[u8], l: Line) -> bool
     requires { l.place + l.length ≤ length s.now }
     ensures { result ≡ good_put s.now l }
 {
-    if l.length < 48 {
-        return false;
-    }
     let at = l.place as usize;
-    request_zeros(s, at) && l.length as u64 == 48 + numbers::u32_at(s, at + 32) as u64
+    48 <= l.length
+        && request_zeros(s, at)
+        && l.length as u64 == 48 + numbers::u32_at(s, at + 32) as u64
 }
 
 #[tactic(auto, unfolding(crate::specs::Calls::request_at))]
@@ -85,11 +71,9 @@ fn good_get(s: &[u8], l: Line) -> bool
     requires { l.place + l.length ≤ length s.now }
     ensures { result ≡ good_get s.now l }
 {
-    if l.length != 48 {
-        return false;
-    }
     let at = l.place as usize;
-    request_zeros(s, at)
+    l.length == 48
+        && request_zeros(s, at)
         && s[at + 1] == 0
         && numbers::u64_at(s, at + 40) == 0
         && numbers::u32_at(s, at + 32) <= SCRIPT_MEMORY
@@ -118,14 +102,8 @@ fn well_formed(s: &[u8], l: Line) -> bool
     let Ok(kind) = CallKind::try_from(l.kind) else {
         return false;
     };
-    if l.reserved != 0 {
-        return false;
-    }
     let end = l.place as usize + l.length as usize;
-    if s.len() < end {
-        return false;
-    }
-    good_body(kind, s, l)
+    l.reserved == 0 && end <= s.len() && good_body(kind, s, l)
 }
 
 // The same, where its body is to begin at a place.

@@ -227,19 +227,6 @@ pub call-printout :
 unfolding printout_of
 call-printout s n bad = ap (λ (v : Result Unit BadScript). printout_by v s) bad
 
--- with it handed over, all is done: no call is run
-pub head-replayed : (s : List ℕ) (r : Report) → verdict_of s ≡ Err BadScript.Head → r.bytes ≡ length (printout_of s) → Replayed s r
-head-replayed s r bad printed = record {
-  printed = printed;
-  ran = λ good. let z : ◌≡◌ {A = ℕ} 0 1 = cc in absurd (omega arith);
-}
-
-pub call-replayed : (s : List ℕ) (n : ℕ) (r : Report) → verdict_of s ≡ Err (BadScript.Call n) → r.bytes ≡ length (printout_of s) → Replayed s r
-call-replayed s n r bad printed = record {
-  printed = printed;
-  ran = λ good. let z : ◌≡◌ {A = ℕ} 0 1 = cc in absurd (omega arith);
-}
-
 module _
     (s : List ℕ) (begun : Report) (text : List ℕ) (most : ℕ) (w w' : Writer) (bytes : List ℕ)
     (none : begun.bytes ≡ 0) (is : printout_of s ≡ text) (small : most ≤ LINE) (start : w.at ≡ 0) (wrote : Wrote w text most w')

@@ -46,12 +46,3 @@ shorter h p = record {
   buffer = p.buffer;
   same = p.same;
 }
-
--- the text of a value that is known to be another
-pub text_of :
-    {X : Type 0} {w w' : Writer} {m n : ℕ} (text : X → List ℕ) (x known : X)
-    → x ≡ known
-    → m ≤ n
-    → Wrote w (text known) m w'
-    → Wrote w (text x) n w'
-text_of text x known e h p = rw e (shorter h p)
