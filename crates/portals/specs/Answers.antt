@@ -1,28 +1,13 @@
 -- The answers in document 01's words, with the numbers and values that it gives each, and what each call's own answer means in them.
-use Rattle.std.specs.Prelude.{Bool, true, false, ℕ}
+use Rattle.std.specs.Prelude.{Bool, true, false, cond, ℕ, Option, None, Some, Result, Ok, Err}
 use Rattle.matching.specs.Refusals.{refusal_number}
 use Rattle.matching.specs.declared.refusals.Refusal.{Refusal}
 use Rattle.state.specs.declared.layout.Event.{Event}
-use Rattle.portals.specs.declared.answers.NewAnswer.{NewAnswer}
-use Rattle.portals.specs.declared.answers.NewAnswer.TheVariants as New
-use Rattle.portals.specs.declared.answers.AppendAnswer.{AppendAnswer}
-use Rattle.portals.specs.declared.answers.AppendAnswer.TheVariants as Append
-use Rattle.portals.specs.declared.answers.PlainAnswer.{PlainAnswer}
-use Rattle.portals.specs.declared.answers.PlainAnswer.TheVariants as Plain
-use Rattle.portals.specs.declared.answers.SearchAnswer.{SearchAnswer}
-use Rattle.portals.specs.declared.answers.SearchAnswer.TheVariants as Search
+use Rattle.state.specs.declared.layout.Counter.{Counter}
+use Rattle.portals.specs.declared.answers.Appended.{Appended}
+use Rattle.portals.specs.declared.answers.Appended.TheVariants as Append
 use Rattle.portals.specs.declared.answers.RequestAnswer.{RequestAnswer}
 use Rattle.portals.specs.declared.answers.RequestAnswer.TheVariants as Request
-use Rattle.portals.specs.declared.answers.EventAnswer.{EventAnswer}
-use Rattle.portals.specs.declared.answers.EventAnswer.TheVariants as Oldest
-use Rattle.portals.specs.declared.answers.CounterAnswer.{CounterAnswer}
-use Rattle.portals.specs.declared.answers.CounterAnswer.TheVariants as Count
-use Rattle.portals.specs.declared.answers.RegisterAnswer.{RegisterAnswer}
-use Rattle.portals.specs.declared.answers.RegisterAnswer.TheVariants as Register
-use Rattle.portals.specs.declared.answers.ReadyAnswer.{ReadyAnswer}
-use Rattle.portals.specs.declared.answers.ReadyAnswer.TheVariants as Ready
-use Rattle.portals.specs.declared.answers.PollAnswer.{PollAnswer}
-use Rattle.portals.specs.declared.answers.PollAnswer.TheVariants as Poll
 
 -- document 01's words with its values; MADE, READY, NOT_READY and REACHED are ours, of calls that no script has
 pub data Answer : Type 0 where
@@ -80,50 +65,58 @@ is_refused NONE_REACHED = false
 
 -- ## What the answer of each call means
 
-abbrev pub new_answer : NewAnswer → Answer
-new_answer New.Made = MADE
-new_answer (New.Refused r) = refused r
+-- a call that is not refused says what it found or did
+abbrev pub answered : {A : Type 0} → (A → Answer) → Result A Refusal → Answer
+answered says (Ok a) = says a
+answered says (Err r) = refused r
 
-abbrev pub append_answer : AppendAnswer → Answer
-append_answer (Append.Linked h) = LINKED h
-append_answer Append.Taken = TAKEN
-append_answer (Append.Refused r) = refused r
+abbrev pub new_answer : Result Unit Refusal → Answer
+new_answer r = answered (λ u. MADE) r
 
-abbrev pub plain_answer : PlainAnswer → Answer
-plain_answer Plain.Done = DONE
-plain_answer (Plain.Refused r) = refused r
+abbrev pub appended_as : Appended → Answer
+appended_as (Append.Linked h) = LINKED h
+appended_as Append.Taken = TAKEN
 
-abbrev pub search_answer : SearchAnswer → Answer
-search_answer (Search.Searched n) = SEARCHED n
-search_answer (Search.Refused r) = refused r
+abbrev pub append_answer : Result Appended Refusal → Answer
+append_answer r = answered appended_as r
 
-abbrev pub request_answer : RequestAnswer → Answer
-request_answer (Request.Priority n o a) = PRIORITY n o a
-request_answer (Request.Overflow n o a) = OVERFLOW n o a
-request_answer (Request.Dropped a) = DROPPED a
-request_answer (Request.PermissionViolation a) = PERM a
-request_answer (Request.OperationViolation a) = OP a
-request_answer (Request.Refused r) = refused r
+-- of an unlink, a counter that is set and one that is incremented
+abbrev pub plain_answer : Result Unit Refusal → Answer
+plain_answer r = answered (λ u. DONE) r
 
-abbrev pub event_answer : EventAnswer → Answer
-event_answer (Oldest.Oldest e) = EVENT e
-event_answer Oldest.Nothing = NONE
-event_answer (Oldest.Refused r) = refused r
+abbrev pub search_answer : Result ℕ Refusal → Answer
+search_answer r = answered SEARCHED r
 
-abbrev pub counter_answer : CounterAnswer → Answer
-counter_answer (Count.Value c) = COUNTER c.success c.failure
-counter_answer (Count.Refused r) = refused r
+abbrev pub taken_as : RequestAnswer → Answer
+taken_as (Request.Priority n o a) = PRIORITY n o a
+taken_as (Request.Overflow n o a) = OVERFLOW n o a
+taken_as (Request.Dropped a) = DROPPED a
+taken_as (Request.PermissionViolation a) = PERM a
+taken_as (Request.OperationViolation a) = OP a
 
-abbrev pub register_answer : RegisterAnswer → Answer
-register_answer (Register.Value n) = REGISTER n
-register_answer (Register.Refused r) = refused r
+abbrev pub request_answer : Result RequestAnswer Refusal → Answer
+request_answer r = answered taken_as r
 
-abbrev pub ready_answer : ReadyAnswer → Answer
-ready_answer Ready.Ready = READY
-ready_answer Ready.NotReady = NOT_READY
-ready_answer (Ready.Refused r) = refused r
+abbrev pub read_as : Option Event → Answer
+read_as (Some e) = EVENT e
+read_as None = NONE
 
-abbrev pub poll_answer : PollAnswer → Answer
-poll_answer (Poll.Reached n) = REACHED n
-poll_answer Poll.NoneReached = NONE_REACHED
-poll_answer (Poll.Refused r) = refused r
+abbrev pub event_answer : Result (Option Event) Refusal → Answer
+event_answer r = answered read_as r
+
+abbrev pub counter_answer : Result Counter Refusal → Answer
+counter_answer r = answered (λ c. COUNTER c.success c.failure) r
+
+abbrev pub register_answer : Result ℕ Refusal → Answer
+register_answer r = answered REGISTER r
+
+abbrev pub ready_answer : Result Bool Refusal → Answer
+ready_answer r = answered (λ passed. cond passed READY NOT_READY) r
+
+-- the place that is reached, or none
+abbrev pub reached_answer : Option ℕ → Answer
+reached_answer None = NONE_REACHED
+reached_answer (Some i) = REACHED i
+
+abbrev pub poll_answer : Result (Option ℕ) Refusal → Answer
+poll_answer r = answered reached_answer r

@@ -1,6 +1,5 @@
 -- Document 01, "Events", its last paragraph: the calls on counting events and status registers.
-use Rattle.std.specs.Prelude.{Bool, ◌||◌, not, cond, List, [], ◌∷◌, ℕ, suc, eqb, leb, length, set}
-use Rattle.std.specs.Prelude.{Option, None, Some}
+use Rattle.std.specs.Prelude.{Bool, ◌||◌, not, cond, List, [], ◌∷◌, ℕ, suc, eqb, leb, length, set, Option, None, Some, Result}
 use Rattle.matching.specs.Refusals.{first_bad}
 use Rattle.matching.specs.Entry.{is_counter}
 use Rattle.matching.specs.declared.refusals.BadArgument.{BadArgument}
@@ -12,13 +11,13 @@ use Rattle.state.specs.declared.layout.Counter.{Counter}
 use Rattle.state.specs.declared.layout.CounterChange.{CounterChange}
 use Rattle.state.specs.declared.layout.CounterTest.{CounterTest}
 use Rattle.portals.specs.Refusals.{Condition, good_arguments}
-use Rattle.portals.specs.Answers.{Answer, DONE, COUNTER, REGISTER, READY, NOT_READY, REACHED, NONE_REACHED}
+use Rattle.portals.specs.Answers.{Answer, DONE, COUNTER, REGISTER, READY, NOT_READY, reached_answer}
 use Rattle.portals.specs.Outcome.{Outcome, guarded, guarded_read}
 
 -- ## The counter calls
 
 -- "another counter than 0 to 15 is ARG_INVALID"
-abbrev pub bad_counter_argument : ℕ → BadArgument
+abbrev pub bad_counter_argument : ℕ → Result Unit BadArgument
 bad_counter_argument k = first_bad (record { passed = is_counter k; argument = BadArgument.Counter } ∷ [])
 
 abbrev pub counter_tests : ℕ → List Condition
@@ -60,7 +59,7 @@ ready v x =
 
 -- "Poll, over a list of counters and tests of equal length (else ARG_INVALID)": every counter is tested, whatever is reached
 -- before it, and before the lengths: decisions 5 and 32
-abbrev pub bad_poll_argument : List ℕ → List ℕ → BadArgument
+abbrev pub bad_poll_argument : List ℕ → List ℕ → Result Unit BadArgument
 bad_poll_argument ks tests =
     first_bad
     (record { passed = every is_counter ks; argument = BadArgument.Counter }
@@ -75,10 +74,6 @@ reached_from counters i (k ∷ ks) (test ∷ tests) =
     cond (has_reached (counter_at counters k) test) (Some i) (reached_from counters (suc i) ks tests)
 
 -- "or NONE_REACHED"
-abbrev pub reached_answer : Option ℕ → Answer
-reached_answer None = NONE_REACHED
-reached_answer (Some i) = REACHED i
-
 unfoldable pub poll : View → List ℕ → List ℕ → Answer
 poll v ks tests =
     guarded_read (good_arguments (bad_poll_argument ks tests) ∷ [])
@@ -87,7 +82,7 @@ poll v ks tests =
 -- ## The registers
 
 -- "A register (0 drop, 1 permission, 2 operation) can be read; another is ARG_INVALID."
-abbrev pub bad_register_argument : ℕ → BadArgument
+abbrev pub bad_register_argument : ℕ → Result Unit BadArgument
 bad_register_argument k = first_bad (record { passed = leb k 2; argument = BadArgument.Register } ∷ [])
 
 unfoldable pub read_register : View → ℕ → Answer

@@ -1,27 +1,26 @@
 -- Document 01, "Early messages": append, unlink and search. The walk, and what is done with the headers that it finds, are in `early`.
-use Rattle.std.specs.Prelude.{◌≡◌, Bool, true, false, ◌&&◌, not, cond, List, [], ◌∷◌, ℕ, ◌+◌, eqb, ltb, length}
+use Rattle.std.specs.Prelude.{◌≡◌, Bool, true, false, ◌&&◌, not, cond, List, [], ◌∷◌, ℕ, ◌+◌, ◌<◌, eqb, ltb, length, Result, Ok, Err}
 use Rattle.matching.specs.Refusals.{first_bad}
 use Rattle.matching.specs.Entry.{bad_entry_argument}
 use Rattle.matching.specs.declared.layout.Entry.{Entry}
+use Rattle.matching.specs.declared.refusals.Refusal.{Refusal}
 use Rattle.matching.specs.declared.refusals.Refusal.TheVariants as Refusal
 use Rattle.matching.specs.declared.refusals.BadArgument.{BadArgument}
-use Rattle.state.specs.Lists.{any, without_first}
+use Rattle.state.specs.Lists.{any, remove_at, without_first}
 use Rattle.state.specs.Sizes.{SLOTS, LAST_HANDLE}
 use Rattle.state.specs.View.{View, entries_of, with_entries, is_linked_as}
 use Rattle.state.specs.Soundness.{names}
-use Rattle.state.specs.Parts.{EntriesHold}
 use Rattle.state.specs.declared.layout.Header.{Header}
-use Rattle.state.specs.declared.layout.Entries.{Entries}
+use Rattle.state.specs.declared.layout.Target.{Target}
 use Rattle.early.specs.Walk.{Walk, walk_for, walk_if, found_once}
 use Rattle.early.specs.Handling.{handled}
 use Rattle.early.specs.declared.handling.Handling.{Handling}
 use Rattle.portals.specs.Refusals.{Condition, good_arguments}
 use Rattle.portals.specs.Answers.{LINKED, TAKEN, DONE, SEARCHED}
 use Rattle.portals.specs.Outcome.{Outcome, guarded}
-use Rattle.portals.specs.Admission.{by_admission}
-use Rattle.portals.specs.declared.admission.Admission.{Admission}
-use Rattle.portals.specs.declared.answers.AppendAnswer.{AppendAnswer}
-use Rattle.portals.specs.declared.answers.AppendAnswer.TheVariants as Append
+use Rattle.portals.specs.Admission.{Admits}
+use Rattle.portals.specs.declared.answers.Appended.{Appended}
+use Rattle.portals.specs.declared.answers.Appended.TheVariants as Append
 
 -- ## Append
 
@@ -61,7 +60,7 @@ append v e = guarded v tt (append_tests v e) (appended v e (taken_by e v.headers
 -- ## Unlink
 
 -- "any handle not linked is ARG_INVALID"
-abbrev pub bad_handle_argument : View → ℕ → BadArgument
+abbrev pub bad_handle_argument : View → ℕ → Result Unit BadArgument
 bad_handle_argument v handle =
     first_bad (record { passed = any (is_linked_as handle) v.entries; argument = BadArgument.Handle } ∷ [])
 
@@ -100,20 +99,19 @@ search v e = guarded v tt (search_tests v e) (searched v e (walk_for e v.headers
 
 -- ## What the calls are made of. No promise of a call cites these.
 
--- what an admitted append answers, by whether USE_ONCE has a fit, and what any append answers
-abbrev pub taken_or_linked : Bool → ℕ → AppendAnswer
+-- what an append says, by whether USE_ONCE has a fit
+abbrev pub taken_or_linked : Bool → ℕ → Appended
 taken_or_linked taken last = cond taken Append.Taken (Append.Linked (next_handle last))
 
-abbrev pub append_answered : Admission → Bool → ℕ → AppendAnswer
-append_answered a taken last = by_admission Append.Refused (taken_or_linked taken last) a
-
--- what an append does with the headers found, by its answer
-abbrev pub append_handling : AppendAnswer → Handling
+-- what an append does with the headers found, by what it says
+abbrev pub append_handling : Appended → Handling
 append_handling (Append.Linked handle) = Handling.Link handle
 append_handling Append.Taken = Handling.Take
-append_handling (Append.Refused r) = Handling.Nothing
 
--- the entries after an unlink, and where nothing is unlinked
-pub record EntriesUnlinked (es : Entries) (unlinks : Bool) (handle : ℕ) (es' : Entries) : Type 0 where
-  pub without : unlinks ≡ true → EntriesHold es' (without_first (is_linked_as handle) (entries_of es))
-  pub kept : unlinks ≡ false → es' ≡ es
+-- an unlink is refused as its tests say, or goes on with the place of the entry that is linked with the handle
+abbrev pub UnlinkTested : Target → ℕ → Result ℕ Refusal → Type 0
+UnlinkTested t handle (Err r) = Admits (λ v. unlink_tests v handle) t (Err r)
+UnlinkTested t handle (Ok at) =
+    Admits (λ v. unlink_tests v handle) t (Ok tt)
+    × (at < t.entries.count)
+    × (remove_at at (entries_of t.entries) ≡ without_first (is_linked_as handle) (entries_of t.entries))

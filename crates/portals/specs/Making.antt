@@ -1,5 +1,5 @@
 -- Making a target from its settings.
-use Rattle.std.specs.Prelude.{[], ◌∷◌, leb}
+use Rattle.std.specs.Prelude.{[], ◌∷◌, leb, Result}
 use Rattle.matching.specs.Refusals.{first_bad}
 use Rattle.matching.specs.declared.refusals.Refusal.{Refusal}
 use Rattle.matching.specs.declared.refusals.BadArgument.{BadArgument}
@@ -11,7 +11,7 @@ use Rattle.portals.specs.Answers.{MADE, refused}
 use Rattle.portals.specs.Outcome.{Outcome}
 
 -- "size above 65,536"
-abbrev pub bad_setting : Settings → BadArgument
+abbrev pub bad_setting : Settings → Result Unit BadArgument
 bad_setting s = first_bad (record { passed = leb s.size MEMORY; argument = BadArgument.Size } ∷ [])
 
 -- "a new target of size 0 then comes back"

@@ -1,5 +1,5 @@
 -- Document 01, "Refusals": the order of the tests.
-use Rattle.std.specs.Prelude.{Bool, cond, List, [], ◌∷◌}
+use Rattle.std.specs.Prelude.{Bool, cond, List, [], ◌∷◌, Result}
 use Rattle.matching.specs.Refusals.{none_bad}
 use Rattle.matching.specs.declared.refusals.Refusal.{Refusal}
 use Rattle.matching.specs.declared.refusals.BadArgument.{BadArgument}
@@ -10,8 +10,8 @@ pub record Condition : Type 0 where
   pub refusal : Refusal
 
 -- ARG_INVALID, unless no argument of the call is bad
-abbrev pub good_arguments : BadArgument → Condition
-good_arguments argument = record { passed = none_bad argument; refusal = Refusal.ArgInvalid }
+abbrev pub good_arguments : Result Unit BadArgument → Condition
+good_arguments tested = record { passed = none_bad tested; refusal = Refusal.ArgInvalid }
 
 -- "Tested in this order. Each returns its number only and changes nothing.": the first refusal of a test that is not passed, or
 -- else what the call does

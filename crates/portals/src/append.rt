@@ -1,94 +1,71 @@
 // Document 01, "Early messages": the call that appends an entry to a list (PtlMEAppend).
-ghost use Rattle.std.specs.Prelude.{◌≡◌, ◌&&◌, ◌<◌, eqb};
+ghost use Rattle.std.specs.Prelude.{◌≡◌, ◌<◌};
 ghost use Rattle.state.specs.Sizes.{LAST_HANDLE};
 ghost use Rattle.state.specs.View.{view_of};
 ghost use Rattle.state.specs.Parts.{EntriesFit};
-ghost use Rattle.portals.specs.Admission.{is_admitted, Admits};
-ghost use Rattle.portals.specs.EarlyMessages.{has_space, append_tests, append_answered, append_handling};
+ghost use Rattle.portals.specs.Admission.{Admits};
+ghost use Rattle.portals.specs.EarlyMessages.{has_space, append_tests, taken_or_linked, append_handling};
 ghost use Rattle.portals.specs.Promises.{AppendMet};
-ghost use Rattle.portals.specs.declared.admission.Admission.TheVariants as Admission;
 
 use crate::admission;
-use crate::admission::Admission;
-use crate::answers::{AppendAnswer, AppendDone};
+use crate::answers::Appended;
 use early::handling::Handling;
 use early::{handling, walk};
+use matching::entry;
 use matching::layout::Entry;
 use matching::refusals::Refusal;
-use matching::{entry, refusals};
 use state::layout::Target;
-use state::{sizes, soundness};
+use state::sizes;
 
 // A slot is free, and a handle is left.
-pub fn has_space(t: Target) -> bool
-    requires { EntriesFit t.entries }
-    ensures { result ≡ has_space (view_of t) }
+fn has_space(t: &Target) -> bool
+    requires { EntriesFit t.now.entries }
+    ensures { result ≡ has_space (view_of t.now) }
 {
     (t.entries.count < sizes::SLOTS) & (t.last < sizes::LAST_HANDLE)
 }
 
 // The tests of an append, in their order.
-fn append_admitted(t: Target, e: Entry) -> Admission
-    ensures { Admits (λ v. append_tests v e) t result }
+fn append_admitted(t: &Target, e: &Entry) -> Result<(), Refusal>
+    ensures { Admits (λ v. append_tests v e.now) t.now result }
 {
-    if !soundness::sound(t) {
-        return Admission::Refused(Refusal::BadState);
-    }
-    let bad = entry::bad_entry_argument(e, t.size);
-    if !refusals::none_bad(bad) {
-        return Admission::Refused(Refusal::ArgInvalid);
-    }
+    admission::admit(t, entry::test_entry(e, t.size))?;
     if !has_space(t) {
-        return Admission::Refused(Refusal::NoSpace);
+        return Err(Refusal::NoSpace);
     }
-    Admission::Admitted
+    Ok(())
 }
 
-// It walks: it is admitted, and goes to the priority list.
-fn append_walks(a: Admission, e: Entry) -> bool
-    ensures { result ≡ (is_admitted a && eqb e.list 0) }
+// TAKEN where USE_ONCE has a fit, else LINKED with the next handle.
+fn taken_or_linked(taken: bool, last: u32) -> Appended
+    requires { last < LAST_HANDLE }
+    ensures { result ≡ taken_or_linked taken last }
 {
-    admission::is_admitted(a) & (e.list == 0)
-}
-
-// What an append answers: its refusal, or TAKEN where USE_ONCE has a fit, else LINKED with the next handle.
-fn append_answer(a: Admission, taken: bool, last: u32) -> AppendAnswer
-    requires { (a ≡ Admission.Admitted) → (last < LAST_HANDLE) }
-    ensures { result ≡ append_answered a taken last }
-{
-    match a {
-        Admission::Admitted => if taken {
-            AppendAnswer::Taken
-        } else {
-            AppendAnswer::Linked(last + 1)
-        },
-        Admission::Refused(refusal) => AppendAnswer::Refused(refusal),
+    if taken {
+        Appended::Taken
+    } else {
+        Appended::Linked(last + 1)
     }
 }
 
-// What it does with the headers found, by its answer.
-fn append_handling(answer: AppendAnswer) -> Handling
+// What it does with the headers found.
+fn append_handling(answer: Appended) -> Handling
     ensures { result ≡ append_handling answer }
 {
     match answer {
-        AppendAnswer::Linked(handle) => Handling::Link(handle),
-        AppendAnswer::Taken => Handling::Take,
-        AppendAnswer::Refused(refusal) => Handling::Nothing,
+        Appended::Linked(handle) => Handling::Link(handle),
+        Appended::Taken => Handling::Take,
     }
 }
 
 // Appends an entry. One for the priority list first walks the unexpected headers of its portal.
-pub fn append(t: Target, e: Entry) -> AppendDone
-    ensures { AppendMet t e result }
+pub fn append(t: &mut Target, e: Entry) -> Result<Appended, Refusal>
+    ensures { AppendMet t.old e (record { target = t.new; answer = result }) }
 {
-    let a = append_admitted(t, e);
-    let walks = append_walks(a, e);
-    let w = walk::walk_if(t.unexpected, walks, e);
-    let taken = walk::found_once(w, e);
-    let answer = append_answer(a, taken, t.last);
-    let how = append_handling(answer);
-    AppendDone {
-        target: handling::target_after(t, how, w, e),
-        answer,
-    }
+    append_admitted(t, &e)?;
+    let w = walk::walk_if(t.unexpected.in_use(), e.list == 0, &e);
+    let taken = walk::found_once(&w, &e);
+    let answer = taken_or_linked(taken, t.last);
+    handling::handle(t, append_handling(answer), &w, &e);
+    Ok(answer)
 }

@@ -1,57 +1,29 @@
 // Document 01, "Early messages": the call that unlinks an entry (PtlMEUnlink).
-ghost use Rattle.std.specs.Prelude.{◌≡◌, true};
-ghost use Rattle.state.specs.Lists.{any};
-ghost use Rattle.state.specs.View.{entries_of, is_linked_as};
-ghost use Rattle.state.specs.Parts.{EntriesFit};
-ghost use Rattle.portals.specs.Admission.{Admits};
-ghost use Rattle.portals.specs.EarlyMessages.{unlink_tests, EntriesUnlinked};
+ghost use Rattle.portals.specs.EarlyMessages.{UnlinkTested};
 ghost use Rattle.portals.specs.Promises.{UnlinkMet};
 
 use crate::admission;
-use crate::admission::Admission;
-use crate::answers::PlainDone;
-use matching::refusals::Refusal;
-use state::layout::{Entries, Target};
-use state::{entries, soundness, unexpected};
+use matching::refusals::{BadArgument, Refusal};
+use state::layout::Target;
+use state::{entries, unexpected};
 
-// The tests of an unlink, in their order.
-fn unlink_admitted(t: Target, handle: u32) -> Admission
-    ensures { Admits (λ v. unlink_tests v handle) t result }
+// The tests of an unlink, in their order, and the place of the entry that is linked with the handle.
+fn unlink_tested(t: &Target, handle: u32) -> Result<usize, Refusal>
+    ensures { UnlinkTested t.now handle result }
 {
-    if !soundness::sound(t) {
-        return Admission::Refused(Refusal::BadState);
+    admission::test_state(t)?;
+    let at = entries::linked_place(t.entries.in_use(), handle).ok_or(BadArgument::Handle)?;
+    if unexpected::is_named(t.unexpected.in_use(), handle) {
+        return Err(Refusal::InUse);
     }
-    if entries::linked_place(t.entries, handle) == t.entries.count {
-        return Admission::Refused(Refusal::ArgInvalid);
-    }
-    if unexpected::names_from(t.unexpected, 0, handle) {
-        return Admission::Refused(Refusal::InUse);
-    }
-    Admission::Admitted
-}
-
-// The entries without the one that is linked with this handle, where it is unlinked.
-fn entries_unlinked(es: Entries, unlinks: bool, handle: u32) -> Entries
-    requires { (unlinks ≡ true) → (EntriesFit es × (any (is_linked_as handle) (entries_of es) ≡ true)) }
-    ensures { EntriesUnlinked es unlinks handle result }
-{
-    if !unlinks {
-        return es;
-    }
-    let at = entries::linked_place(es, handle);
-    entries::entry_removed(es, at)
+    Ok(at)
 }
 
 // Unlinks an entry, without an event.
-pub fn unlink(t: Target, handle: u32) -> PlainDone
-    ensures { UnlinkMet t handle result }
+pub fn unlink(t: &mut Target, handle: u32) -> Result<(), Refusal>
+    ensures { UnlinkMet t.old handle (record { target = t.new; answer = result }) }
 {
-    let a = unlink_admitted(t, handle);
-    let unlinks = admission::is_admitted(a);
-    let mut next = t;
-    next.entries = entries_unlinked(t.entries, unlinks, handle);
-    PlainDone {
-        target: next,
-        answer: admission::answer_plain(a),
-    }
+    let at = unlink_tested(t, handle)?;
+    t.entries.remove(at);
+    Ok(())
 }
