@@ -1,7 +1,7 @@
 -- The calls that change at most one part of a target, and the one that makes it: how each keeps its promise.
-use Rattle.std.specs.Prelude.{Option, None, Some, Result, Ok, Err}
+use Rattle.std.specs.Prelude.{Option, None, Some, Result, Ok, Err, is_ok}
 use mathlib.Core.Path.{◌≡◌, refl, ap, sym, ◌∙◌, subst}
-use mathlib.Core.Bool.{Bool, true, false, cond}
+use mathlib.Core.Bool.{Bool, true, false, cond, false≢true}
 use mathlib.Core.List.{List, [], ◌∷◌}
 use Prim.Native.Nat.{ℕ, ◌≤◌}
 use lib.ListN.{set}
@@ -185,6 +185,13 @@ unlink-met t handle entries at u h =
     })
 
 -- ## A new target
+
+-- the argument that alone is tested is the bad one
+pub alone-bad : (passed : Bool) (argument bad : BadArgument)
+    → ◌≡◌ {A = Result Unit BadArgument} (cond passed (Ok tt) (Err argument)) (Err bad)
+    → ◌≡◌ {A = Result Unit BadArgument} (cond passed (Ok tt) (Err argument)) (Err argument)
+alone-bad true argument bad e = absurd (false≢true (sym (ap is_ok e)))
+alone-bad false argument bad e = refl
 
 -- it is empty, of a size
 new-as : (s : Settings) (size : ℕ) (answer : Result Unit Refusal)

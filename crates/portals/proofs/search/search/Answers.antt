@@ -1,4 +1,5 @@
 -- Its mode decides what is left of the target.
+use mathlib.Core.Bool.{true}
 use Rattle.portals.specs.EarlyMessages.{search_tests}
 use Rattle.portals.proofs.MetLaws.{handed-on, refused-kept}
 use Rattle.portals.proofs.EarlyMet.{search-guarded, search-admits, walked-allows, search-room, search-met}
