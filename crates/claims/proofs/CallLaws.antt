@@ -8,14 +8,16 @@ use lib.Dec.{ltb, eqb}
 use lib.ListN.{length}
 use Rattle.matching.specs.declared.layout.Entry.{Entry}
 use Rattle.matching.specs.declared.layout.Request.{Request}
+use Rattle.matching.specs.Request.{arrival_of}
 use Rattle.matching.specs.declared.request.Kind.{Kind}
+use Rattle.matching.specs.declared.request.Violation.{Violation}
 use Rattle.state.specs.Sizes.{SLOTS, LAST_HANDLE}
 use Rattle.state.specs.View.{View}
 use Rattle.state.specs.declared.layout.Header.{Header}
 use Rattle.state.specs.declared.layout.CounterChange.{CounterChange}
 use Rattle.state.proofs.ListLaws.{both, cond_cases}
 use Rattle.state.proofs.SoundLaws.{Sound, sound-facts, facts-sound}
-use Rattle.requests.specs.Decision.{request_state}
+use Rattle.requests.specs.Decision.{decide, request_state}
 use Rattle.requests.specs.declared.plan.Plan.{Plan}
 use Rattle.requests.specs.declared.decision.Decision.{Decision}
 use Rattle.requests.proofs.RequestKept.{none-beyond}
@@ -28,7 +30,7 @@ use Rattle.portals.specs.Outcome.{Outcome, refusal, guarded}
 use Rattle.portals.specs.Making.{new}
 use Rattle.portals.specs.EventRead.{read_event}
 use Rattle.portals.specs.CounterCalls.{counter_tests, set_counter, increment}
-use Rattle.portals.specs.Request.{carried_out, decided, put, get}
+use Rattle.portals.specs.Request.{answer_by, request_tests, requested, put, get}
 use Rattle.portals.specs.EarlyMessages.{append_by, taken_by, append_tests, append, unlink_tests, unlink, search_tests, search}
 use Rattle.portals.specs.Calls.{Call, state_after, answer_to}
 use Rattle.portals.specs.Calls as calls
@@ -90,22 +92,31 @@ module _ (v : View) where
   unfolding search handled
   search-orderly e = guarded-orderly v tt (search_tests v e) _ refl refl
 
-  -- a request that is refused leaves all as it was; every other decision gives an answer that is no refusal
-  carried-orderly : (q : Request) (kind : Kind) (moved : Plan → List ℕ) (lent : List ℕ) (d : Decision)
-      → Orderly v lent (carried_out v q kind moved lent d)
-  carried-orderly q kind moved lent (Decision.Refuse r) = record { state = λ e. refl; buffer = λ e. refl; fixed = refl }
-  carried-orderly q kind moved lent Decision.Drop = done-orderly v lent _ refl refl
-  carried-orderly q kind moved lent Decision.DenyPermission = done-orderly v lent _ refl refl
-  carried-orderly q kind moved lent Decision.DenyOperation = done-orderly v lent _ refl refl
-  carried-orderly q kind moved lent (Decision.Deliver p) = done-orderly v lent _ (delivery-answers kind q.ack p) refl
+  -- no decision on a request gives a refusal
+  decided-answers : (kind : Kind) (ack : ℕ) (d : Decision) → is_refused (answer_by kind ack d) ≡ false
+  decided-answers kind ack Decision.Drop = refl
+  decided-answers kind ack (Decision.Deny Violation.Permission) = refl
+  decided-answers kind ack (Decision.Deny Violation.Operation) = refl
+  decided-answers kind ack (Decision.Deliver p) = delivery-answers kind ack p
+
+  decided-size : (d : Decision) → (request_state v d).size ≡ v.size
+  decided-size Decision.Drop = refl
+  decided-size (Decision.Deny violation) = refl
+  decided-size (Decision.Deliver p) = refl
+
+  requested-orderly : (size : ℕ) (q : Request) (kind : Kind) (n : ℕ) (moved : Plan → List ℕ) (lent : List ℕ)
+      → Orderly v lent (requested v size q kind n moved lent)
+  requested-orderly size q kind n moved lent =
+      let d = decide v.entries v.headers q.portal (arrival_of q kind n) in
+      guarded-orderly v lent (request_tests v size q n) _ (decided-answers kind q.ack d) (decided-size d)
 
   put-orderly : (memory : List ℕ) (q : Request) (payload : List ℕ) → Orderly v memory (put v memory q payload)
   unfolding put
-  put-orderly memory q payload = carried-orderly q Kind.Put _ memory (decided v (length memory) q Kind.Put (length payload))
+  put-orderly memory q payload = requested-orderly (length memory) q Kind.Put (length payload) _ memory
 
   get-orderly : (memory : List ℕ) (q : Request) (reply : List ℕ) → Orderly v reply (get v memory q reply)
   unfolding get
-  get-orderly memory q reply = carried-orderly q Kind.Get _ reply (decided v (length memory) q Kind.Get (length reply))
+  get-orderly memory q reply = requested-orderly (length memory) q Kind.Get (length reply) _ reply
 
   read-event-orderly : Orderly v tt (read_event v)
   unfolding read_event
@@ -176,10 +187,8 @@ same-last v b tests does h =
 
 -- a request keeps it, whatever is decided
 request-last : (v : View) (d : Decision) → (request_state v d).last ≡ v.last
-request-last v (Decision.Refuse r) = refl
 request-last v Decision.Drop = refl
-request-last v Decision.DenyPermission = refl
-request-last v Decision.DenyOperation = refl
+request-last v (Decision.Deny violation) = refl
 request-last v (Decision.Deliver p) = refl
 
 last-kept : (v : View) (memory : List ℕ) (c : Call) → is_append c ≡ false → (state_after v memory c).last ≡ v.last
@@ -189,8 +198,10 @@ last-kept v memory (calls.unlink handle) h = same-last v tt (unlink_tests v hand
 last-kept v memory (calls.search e) h =
     same-last v tt (search_tests v e) _
     (cond_cases (λ handling. last_after v.last handling ≡ v.last) (eqb e.list 0) Handling.Look Handling.Delete (λ look. refl) (λ delete. refl))
-last-kept v memory (calls.put q payload) h = request-last v (decided v (length memory) q Kind.Put (length payload))
-last-kept v memory (calls.get q reply) h = request-last v (decided v (length memory) q Kind.Get (length reply))
+last-kept v memory (calls.put q payload) h =
+    same-last v memory (request_tests v (length memory) q (length payload)) _ (request-last v (decide v.entries v.headers q.portal (arrival_of q Kind.Put (length payload))))
+last-kept v memory (calls.get q reply) h =
+    same-last v reply (request_tests v (length memory) q (length reply)) _ (request-last v (decide v.entries v.headers q.portal (arrival_of q Kind.Get (length reply))))
 last-kept v memory calls.read_event h = refl
 last-kept v memory (calls.set_counter x) h = same-last v tt (counter_tests x.counter) _ refl
 last-kept v memory (calls.increment x) h = same-last v tt (counter_tests x.counter) _ refl
