@@ -73,15 +73,12 @@ fn request() -> Request
 pub fn early_message() -> Left
     ensures { Example result }
 {
-    let made = making::new(Settings { size: 16 });
-    let new = made.target;
+    let mut target = Target::empty(0);
     let mut memory = [0u8; 16];
-    let first = append::append(new, overflow_entry());
-    let linked = first.target;
-    let early = put_get::put(linked, &mut memory, request(), b"abc");
-    let waiting = early.target;
+    let _ = making::new(&mut target, Settings { size: 16 });
+    let _ = append::append(&mut target, overflow_entry());
+    let _ = put_get::put(&mut target, &mut memory, request(), b"abc");
     memory[12] = 7;
-    let last = append::append(waiting, taking_entry());
-    let target = last.target;
+    let _ = append::append(&mut target, taking_entry());
     Left { target, memory }
 }
