@@ -212,8 +212,8 @@ last-kept v memory (calls.poll ks tests) h = refl
 
 -- ## All of them
 
-pub call-laws : CallLaws
-call-laws = record {
+pub call_laws : CallLaws
+call_laws = record {
   sound = λ v memory c h. facts-sound (state_after v memory c) ((call-lawful v memory c).sound (sound-facts v h));
   made = λ c. facts-sound (new c).state (new-sound c);
   fixed = λ v memory c. (call-lawful v memory c).fixed;

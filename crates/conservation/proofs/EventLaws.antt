@@ -280,7 +280,7 @@ overflow-shown b (link e handle) =
     let w = append_walk b e in
     shown-both (walk_events b e handle w) (link_event e handle ∷ []) (hand-outs-shown b e handle w.found w.left) refl ∙ append-nil _
 overflow-shown b (taken e) = let w = append_walk b e in hand-outs-shown b e 0 w.found w.left
-overflow-shown b (remove handle) = refl
+overflow-shown b (remove _) = refl
 overflow-shown b (look e) =
     let found = (search_walk b e).found in
     shown-both (map (λ n. search_event e (header_at b.arrivals n)) found) (no_match_events e found) (search-hidden b e found) (closing-hidden e found)

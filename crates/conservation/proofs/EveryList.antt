@@ -27,7 +27,7 @@ use Rattle.portals.specs.Calls.{Call, state_after, answer_to}
 use Rattle.portals.specs.Calls as calls
 use Rattle.portals.specs.declared.answers.Done.{Done}
 use Rattle.portals.proofs.GuardLaws.{guard-cases}
-use Rattle.claims.proofs.CallLaws.{call-laws}
+use Rattle.claims.proofs.CallLaws.{call_laws}
 use Rattle.conservation.specs.Steps.{called, events_read}
 use Rattle.conservation.specs.Ledger.{Ledger, empty, hear, message_at, header_at}
 use Rattle.conservation.specs.Runs.{Line, line, line_elsewhere, Stepped, Ran}
@@ -219,7 +219,7 @@ starts : (s : Settings) (new : Done (Result Unit Refusal)) (m : List ℕ) → Ne
 starts s new m p fits =
     let size = (making.new s).state.size in
     let is = p.state ∙ ap sound (made-empty s) in
-    begins size new.target m is (subst (λ v. sound_view v ≡ true) (made-empty s) (call-laws.made s))
+    begins size new.target m is (subst (λ v. sound_view v ≡ true) (made-empty s) (call_laws.made s))
     (fits ∙ ap (λ (v : View). v.size) (seen-is new.target (empty_view size) is).1)
 
 -- ## The claim

@@ -156,19 +156,3 @@ module _ (new : Done (Result Unit Refusal)) (first last : Done (Result Appended 
         undisturbed = undisturbed-by;
         stands = c.bytes abc stays manages undisturbed-by;
       }
-
--- with the entries and the request as the functions give them
-pub example-of : (e f : Entry) (w : Request) (new : Done (Result Unit Refusal)) (first last : Done (Result Appended Refusal)) (arrived : Done (Result RequestAnswer Refusal)) (m : List ℕ)
-    → e ≡ overflow_entry
-    → f ≡ taking_entry
-    → w ≡ request_of 5 0
-    → NewMet (record { size = 16 }) new
-    → AppendMet new.target e first
-    → PutMet first.target zeros w payload arrived m
-    → AppendMet arrived.target f last
-    → Example (record { target = last.target; memory = set m 12 7 })
-example-of e f w new first last arrived m is-e is_f is-w made p q r =
-    example new first last arrived m made
-    (subst (λ (x : Entry). AppendMet new.target x first) is-e p)
-    (subst (λ (x : Request). PutMet first.target zeros x payload arrived m) is-w q)
-    (subst (λ (x : Entry). AppendMet arrived.target x last) is_f r)

@@ -36,9 +36,9 @@ untouched-refused t m c =
 
 -- the others have another answer than the ledger's, or are refused for a memory of the right length: here the two answers, at the line
 -- where they differ
-pub impostors-refused : ImpostorsRefused
+pub impostors_refused : ImpostorsRefused
 unfolding bad_entry_argument bad_request_argument chosen matches bits_agree allows_length available offset_used verdict_on takes_headers accepted ack_given place message local_after unlinks fits
-impostors-refused = (
+impostors_refused = (
   λ t m c. let e : DROPPED 1 ≡ OVERFLOW 3 0 1 = c.each.1.0.answer in let z : ◌≡◌ {A = ℕ} 0 1 = cc in absurd (omega arith),
   (
     λ t m c. let e : REFUSED 4 ≡ LINKED 1 = c.each.0.answer in let z : ◌≡◌ {A = ℕ} 0 1 = cc in absurd (omega arith),
