@@ -1,15 +1,14 @@
 // The walk over the unexpected headers, oldest first. It is the same for an append and for both modes of a search.
-ghost use Rattle.std.specs.Prelude.{◌≡◌, true};
-ghost use Rattle.state.specs.View.{headers_of};
+ghost use Rattle.std.specs.Prelude.{◌≡◌, ◌≤◌, length};
+ghost use Rattle.state.specs.Sizes.{HEADERS};
 ghost use Rattle.state.specs.Parts.{UnexpectedFit};
-ghost use Rattle.early.specs.Walk.{arrival_in, fits_header, uses_once, walk_for, found_once};
-ghost use Rattle.early.specs.Parts.{walk_of, WalkHolds, WalkedAs};
+ghost use Rattle.early.specs.Walk.{arrival_in, fits_header, uses_once, walk_for, walk_if, found_once};
+ghost use Rattle.early.specs.Parts.{walk_of, WalkHolds};
 
 use matching::layout::Entry;
 use matching::request::Arrival;
 use matching::{early_messages, entry};
 use state::layout::{Header, Unexpected};
-use state::{kinds, unexpected};
 
 // What a walk found and what it left, each in the order of arrival.
 #[derive(Clone, Copy)]
@@ -19,12 +18,11 @@ pub struct Walked {
 }
 
 // The message of a header as it arrived.
-fn arrival_in(h: Header) -> Arrival
-    ensures { result ≡ arrival_in h }
+fn arrival_in(h: &Header) -> Arrival
+    ensures { result ≡ arrival_in h.now }
 {
-    let kind = kinds::kind_of(h.kind);
     Arrival {
-        kind,
+        kind: h.kind.into(),
         requested: h.requested,
         nid: h.nid,
         pid: h.pid,
@@ -36,70 +34,52 @@ fn arrival_in(h: Header) -> Arrival
 }
 
 // A header of the entry's own portal fits it.
-fn fits_header(e: Entry, h: Header) -> bool
-    ensures { result ≡ fits_header e h }
+fn fits_header(e: &Entry, h: &Header) -> bool
+    ensures { result ≡ fits_header e.now h.now }
 {
-    let a = arrival_in(h);
-    (h.portal == e.portal) & early_messages::is_fit(e, a)
+    (h.portal == e.portal) && early_messages::is_fit(e, &arrival_in(h))
 }
 
 // The walk ends at the first that fits.
-fn uses_once(e: Entry) -> bool
-    ensures { result ≡ uses_once e }
+fn uses_once(e: &Entry) -> bool
+    ensures { result ≡ uses_once e.now }
 {
     entry::is_set(e.options, entry::USE_ONCE)
 }
 
-// No headers: the count is 0, and the slots stay as they are.
-fn emptied(mut us: Unexpected) -> Unexpected
-    ensures { result ≡ record { slots = us.slots; count = 0 } }
-{
-    us.count = 0;
-    us
-}
-
-// The walk: all that fit are found, or under USE_ONCE the first of them; the others are left.
-fn walk_for(us: Unexpected, e: Entry) -> Walked
-    requires { UnexpectedFit us }
-    ensures { WalkHolds result (walk_for e (headers_of us)) }
+// The walk of a call that walks: all that fit are found, or under USE_ONCE the first of them; the others are left. A call that does not
+// walk finds none and leaves all: its walk is over before it begins.
+#[tactic(auto, unfolding(crate::specs::Walk::walk_for))]
+pub fn walk_if(headers: &[Header], walks: bool, e: &Entry) -> Walked
+    requires { length headers.now ≤ HEADERS }
+    ensures { WalkHolds result (walk_if walks e.now headers.now) }
 {
     let once = uses_once(e);
-    let mut found = emptied(us);
-    let mut left = emptied(us);
-    let mut over = false;
-    let mut i: usize = 0;
-    while i < us.count {
-        let h = us.slots[i];
-        let fits = fits_header(e, h);
-        i += 1;
-        if !over & fits {
-            found = unexpected::header_added(found, h);
+    let mut found = Unexpected::none();
+    let mut left = Unexpected::none();
+    let mut over = !walks;
+    for h in headers {
+        if !over && fits_header(e, h) {
+            found.add(*h);
             over = once;
         } else {
-            left = unexpected::header_added(left, h);
+            left.add(*h);
         }
     }
     Walked { found, left }
 }
 
-// The walk of a call that walks; one that does not finds none and leaves all.
-pub fn walk_if(us: Unexpected, walks: bool, e: Entry) -> Walked
-    requires { (walks ≡ true) → UnexpectedFit us }
-    ensures { WalkedAs us walks e result }
+// The walk.
+pub fn walk_for(headers: &[Header], e: &Entry) -> Walked
+    requires { length headers.now ≤ HEADERS }
+    ensures { WalkHolds result (walk_for e.now headers.now) }
 {
-    if walks {
-        walk_for(us, e)
-    } else {
-        Walked {
-            found: emptied(us),
-            left: us,
-        }
-    }
+    walk_if(headers, true, e)
 }
 
 // With USE_ONCE there is a fit.
-pub fn found_once(w: Walked, e: Entry) -> bool
-    ensures { UnexpectedFit w.found → (result ≡ found_once e (walk_of w)) }
+pub fn found_once(w: &Walked, e: &Entry) -> bool
+    ensures { UnexpectedFit w.now.found → (result ≡ found_once e.now (walk_of w.now)) }
 {
-    uses_once(e) & (0 < w.found.count)
+    uses_once(e) && 0 < w.found.count
 }

@@ -1,4 +1,5 @@
 -- How a call keeps its promise: where it is admitted it does what it is to do, and where it is refused it leaves all as it was.
+use Rattle.std.specs.Prelude.{Result, Ok, Err}
 use mathlib.Core.Path.{◌≡◌, refl, ap, sym, ◌∙◌, subst}
 use mathlib.Core.Bool.{Bool, true, false, cond, false≢true}
 use mathlib.Core.List.{List, [], ◌∷◌}
@@ -11,11 +12,10 @@ use Rattle.state.specs.declared.layout.Target.{Target}
 use Rattle.state.proofs.ListLaws.{joined}
 use Rattle.state.proofs.SoundLaws.{Sound, facts-sound, target_sound}
 use Rattle.portals.specs.Refusals.{Condition, unless_refused}
-use Rattle.portals.specs.Admission.{admission_if, admission, by_admission}
+use Rattle.portals.specs.Admission.{admission_if, admission}
 use Rattle.portals.specs.Answers.{Answer, refused, is_refused}
 use Rattle.portals.specs.Outcome.{Outcome, refusal, guarded, guarded_read, read_unless_unsound}
 use Rattle.portals.specs.Promises.{Met, ReadMet}
-use Rattle.portals.specs.declared.admission.Admission.{Admission}
 
 -- ## What is seen of a state
 
@@ -39,9 +39,14 @@ fits-counts t f =
 
 -- ## What a call comes to, by its admission
 
+-- `does` where the call is admitted, else `refuse` of the refusal
+abbrev by_admission : {R : Type 0} → (Refusal → R) → R → Result Unit Refusal → R
+by_admission refuse does (Ok u) = does
+by_admission refuse does (Err r) = refuse r
+
 module _ {R : Type 0} (refuse : Refusal → R) (does : R) where
   -- a test decides which of two admissions it is
-  either : (passed : Bool) (x y : R) (a b : Admission)
+  either : (passed : Bool) (x y : R) (a b : Result Unit Refusal)
       → x ≡ by_admission refuse does a
       → y ≡ by_admission refuse does b
       → cond passed x y ≡ by_admission refuse does (cond passed a b)
@@ -50,9 +55,9 @@ module _ {R : Type 0} (refuse : Refusal → R) (does : R) where
 
   -- the first refusal, or what the call does, is what its admission says
   unless-by : (tests : List Condition)
-      → unless_refused refuse tests does ≡ by_admission refuse does (unless_refused Admission.Refused tests Admission.Admitted)
+      → unless_refused refuse tests does ≡ by_admission refuse does (unless_refused Err tests (Ok tt))
   unless-by [] = refl
-  unless-by (c ∷ cs) = either c.passed _ _ _ (Admission.Refused c.refusal) (unless-by cs) refl
+  unless-by (c ∷ cs) = either c.passed _ _ _ (Err c.refusal) (unless-by cs) refl
 
 -- ## A call that may change the state
 
@@ -70,9 +75,9 @@ pub record Unchanged {B : Type 0} (r : Refusal) (t : Target) (lent : B) (t' : Ta
   pub state : t' ≡ t
   pub buffer : left ≡ lent
 
-abbrev pub Ending : {B : Type 0} → Outcome View B → Target → B → Target → B → Answer → Admission → Type 0
-Ending does t lent t' left answer Admission.Admitted = Done does t' left answer
-Ending does t lent t' left answer (Admission.Refused r) = Unchanged r t lent t' left answer
+abbrev pub Ending : {B : Type 0} → Outcome View B → Target → B → Target → B → Answer → Result Unit Refusal → Type 0
+Ending does t lent t' left answer (Ok u) = Done does t' left answer
+Ending does t lent t' left answer (Err r) = Unchanged r t lent t' left answer
 
 module _ {B : Type 0} (call : View → Outcome View B) (t : Target) (lent : B) (answer : Answer) (t' : Target) (left : B) where
   unsound-met : is_sound t ≡ false → Unchanged Refusal.BadState t lent t' left answer → Met call t lent answer t' left
@@ -101,31 +106,42 @@ module _ {B : Type 0} (call : View → Outcome View B) (t : Target) (lent : B) (
 -- `call` is `does` behind its tests, and keeps a state sound
 module _ {B : Type 0} (call does : View → Outcome View B) (tests : View → List Condition) (lent : B)
     (is : (v : View) → call v ≡ guarded v lent (tests v) (does v)) (kept : (v : View) → Sound v → Sound (call v).state) where
-  call_by : (v : View) (a : Admission) → a ≡ admission_if true (tests v) → call v ≡ by_admission (refusal v lent) (does v) a
+  call_by : (v : View) (a : Result Unit Refusal) → a ≡ admission_if true (tests v) → call v ≡ by_admission (refusal v lent) (does v) a
   call_by v a e = is v ∙ unless-by (refusal v lent) (does v) (tests v) ∙ ap (by_admission (refusal v lent) (does v)) (sym e)
 
   met-if : (t t' : Target) (left : B) (answer : Answer) (is_sound_here : Bool) → is_sound t ≡ is_sound_here
-      → (a : Admission)
+      → (a : Result Unit Refusal)
       → a ≡ admission_if is_sound_here (tests (view_of t))
       → Ending (does (view_of t)) t lent t' left answer a
       → Met call t lent answer t' left
   met-if t t' left answer false h a e ending =
       unsound-met call t lent answer t' left h (subst (Ending (does (view_of t)) t lent t' left answer) e ending)
-  met-if t t' left answer true h Admission.Admitted e ending =
+  met-if t t' left answer true h (Ok u) e ending =
       let v = view_of t in
-      let by : call v ≡ does v = call_by v Admission.Admitted e in
+      let by : call v ≡ does v = call_by v (Ok u) e in
       done-met call t lent answer t' left (does v) h by
       (sym (ap (λ (o : Outcome View B). sound_view o.state) by) ∙ facts-sound (call v).state (kept v (target_sound t h)))
       ending
-  met-if t t' left answer true h (Admission.Refused r) e ending =
-      refused-met call t lent answer t' left r h (call_by (view_of t) (Admission.Refused r) e) ending
+  met-if t t' left answer true h (Err r) e ending =
+      refused-met call t lent answer t' left r h (call_by (view_of t) (Err r) e) ending
 
   -- a call that ends as its admission says keeps its promise
-  pub met : (t t' : Target) (left : B) (answer : Answer) (a : Admission)
+  pub met : (t t' : Target) (left : B) (answer : Answer) (a : Result Unit Refusal)
       → a ≡ admission tests t
       → Ending (does (view_of t)) t lent t' left answer a
       → Met call t lent answer t' left
   met t t' left answer a e ending = met-if t t' left answer (is_sound t) refl a e ending
+
+  -- a refused call that left all as it was keeps its promise
+  pub refused-met-by : (t : Target) (r : Refusal) → Err r ≡ admission tests t → Met call t lent (refused r) t lent
+  refused-met-by t r e = met t t lent (refused r) (Err r) e (record { answers = refl; state = refl; buffer = refl })
+
+  -- so does an admitted one that did what it was to do
+  pub done-met-by : (t t' : Target) (left : B) (answer : Answer)
+      → Ok tt ≡ admission tests t
+      → Done (does (view_of t)) t' left answer
+      → Met call t lent answer t' left
+  done-met-by t t' left answer e done = met t t' left answer (Ok tt) e done
 
 -- ## A call that only reads
 
@@ -136,8 +152,14 @@ module _ (call does : View → Answer) (tests : View → List Condition) (is : (
   read-if t true h = rw (seen-sound t h) (sym (is (view_of t) ∙ unless-by refused (does (view_of t)) (tests (view_of t))))
 
   -- a call that answers as its admission says keeps its promise
-  pub read-met : (t : Target) (answer : Answer) (a : Admission)
+  pub read-met : (t : Target) (answer : Answer) (a : Result Unit Refusal)
       → a ≡ admission tests t
       → answer ≡ by_admission refused (does (view_of t)) a
       → ReadMet call t answer
   read-met t answer a e f = record { outcome = f ∙ ap (by_admission refused (does (view_of t))) e ∙ read-if t (is_sound t) refl }
+
+  pub read-refused : (t : Target) (r : Refusal) → Err r ≡ admission tests t → ReadMet call t (refused r)
+  read-refused t r e = read-met t (refused r) (Err r) e refl
+
+  pub read-done : (t : Target) → Ok tt ≡ admission tests t → ReadMet call t (does (view_of t))
+  read-done t e = read-met t (does (view_of t)) (Ok tt) e refl

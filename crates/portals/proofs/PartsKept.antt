@@ -1,4 +1,5 @@
 -- The calls that change at most one part of a target leave a sound state sound, and a new target is sound.
+use Rattle.std.specs.Prelude.{Ok}
 use mathlib.Core.Path.{◌≡◌, refl}
 use mathlib.Core.Bool.{true, false}
 use mathlib.Core.List.{List, [], ◌∷◌}
@@ -58,7 +59,7 @@ empty-sound size h = record {
 }
 
 setting-fits : (c : Settings) → none_bad (bad_setting c) ≡ true → c.size ≤ MEMORY
-setting-fits c e = leb-true c.size MEMORY (good-both (leb c.size MEMORY) BadArgument.None BadArgument.Size refl e).0
+setting-fits c e = leb-true c.size MEMORY (good-both (leb c.size MEMORY) (Ok tt) BadArgument.Size e).0
 
 pub new-sound : (c : Settings) → Sound (new c).state
 unfolding new

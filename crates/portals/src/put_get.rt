@@ -29,7 +29,13 @@ fn request_admitted(t: &Target, size: usize, q: &Request, requested: usize) -> R
 }
 
 // What becomes of a request: its tests, and then the rules.
-fn request_decided(t: &Target, size: usize, q: &Request, kind: Kind, requested: usize) -> Result<Decision, Refusal>
+fn request_decided(
+    t: &Target,
+    size: usize,
+    q: &Request,
+    kind: Kind,
+    requested: usize,
+) -> Result<Decision, Refusal>
     ensures { DecidedAs t.now size q.now kind requested result }
 {
     request_admitted(t, size, q, requested)?;
@@ -74,7 +80,12 @@ fn answer_by(d: &Decision, kind: Kind, ack: u16) -> RequestAnswer
 }
 
 // A put: where it is delivered, the first bytes of the payload go to the memory.
-pub fn put(t: &mut Target, memory: &mut [u8], q: Request, payload: &[u8]) -> Result<RequestAnswer, Refusal>
+pub fn put(
+    t: &mut Target,
+    memory: &mut [u8],
+    q: Request,
+    payload: &[u8],
+) -> Result<RequestAnswer, Refusal>
     ensures { PutMet t.old memory.old q payload.now (record { target = t.new; answer = result }) memory.new }
 {
     let d = request_decided(t, memory.len(), &q, Kind::Put, payload.len())?;
@@ -84,7 +95,12 @@ pub fn put(t: &mut Target, memory: &mut [u8], q: Request, payload: &[u8]) -> Res
 }
 
 // A get: where it is delivered, bytes of the memory fill the first of the reply.
-pub fn get(t: &mut Target, memory: &[u8], q: Request, reply: &mut [u8]) -> Result<RequestAnswer, Refusal>
+pub fn get(
+    t: &mut Target,
+    memory: &[u8],
+    q: Request,
+    reply: &mut [u8],
+) -> Result<RequestAnswer, Refusal>
     ensures { GetMet t.old memory.now q reply.old (record { target = t.new; answer = result }) reply.new }
 {
     let d = request_decided(t, memory.len(), &q, Kind::Get, reply.len())?;

@@ -1,12 +1,9 @@
 // Document 01, "Request", rule 3: the entry that is chosen.
 ghost use Rattle.std.specs.Prelude.{◌≡◌};
-ghost use Rattle.state.specs.View.{entries_of};
-ghost use Rattle.state.specs.Parts.{EntriesFit};
 ghost use Rattle.requests.specs.Choice.{is_in, is_candidate, choice_in, choose};
 
-use matching::request;
-use matching::request::Arrival;
-use state::layout::{Entries, HeldEntry};
+use matching::request::{Arrival, Meeting};
+use state::layout::HeldEntry;
 
 // The entry that is chosen: its place among all entries, by the list that it stands in; or nothing.
 #[derive(Clone, Copy)]
@@ -17,20 +14,22 @@ pub enum Choice {
 }
 
 // The entry stands in the portal's list of this number: 0 priority, 1 overflow. A retired entry stands in none.
-fn is_in(x: HeldEntry, portal: u16, list: u8) -> bool
-    ensures { result ≡ is_in portal list x }
+fn is_in(x: &HeldEntry, portal: u16, list: u8) -> bool
+    ensures { result ≡ is_in portal list x.now }
 {
-    (x.retired == 0) & (x.entry.portal == portal) & (x.entry.list == list)
+    x.is_linked() && x.entry.portal == portal && x.entry.list == list
 }
 
 // It stands in the list, and matches the request.
-fn is_candidate(x: HeldEntry, portal: u16, list: u8, a: Arrival) -> bool
-    ensures { result ≡ is_candidate portal list a x }
+fn is_candidate(x: &HeldEntry, portal: u16, list: u8, a: &Arrival) -> bool
+    ensures { result ≡ is_candidate portal list a.now x.now }
 {
-    if !is_in(x, portal, list) {
-        return false;
-    }
-    request::is_match(x.entry, x.local, a)
+    let m = Meeting {
+        entry: &x.entry,
+        local: x.local,
+        arrival: a,
+    };
+    is_in(x, portal, list) && m.matches()
 }
 
 // The choice of a place in the list of this number.
@@ -45,24 +44,17 @@ fn choice_in(list: u8, at: usize) -> Choice
 }
 
 // The first matching entry of the priority list; if there is none, the first of the overflow list.
-pub fn choose(es: Entries, portal: u16, a: Arrival) -> Choice
-    requires { EntriesFit es }
-    ensures { result ≡ choose (entries_of es) portal a }
+pub fn choose(entries: &[HeldEntry], portal: u16, a: &Arrival) -> Choice
+    ensures { result ≡ choose entries.now portal a.now }
 {
-    let n = es.count;
-    let mut list: u8 = 0;
-    'lists: loop {
-        if list == 2 {
-            break 'lists Choice::Nothing;
-        }
-        let mut i: usize = 0;
-        while i < n {
-            let x = es.slots[i];
-            if is_candidate(x, portal, list, a) {
-                break 'lists choice_in(list, i);
+    'lists: {
+        for list in 0..2u8 {
+            for (i, x) in entries.iter().enumerate() {
+                if is_candidate(x, portal, list, a) {
+                    break 'lists choice_in(list, i);
+                }
             }
-            i += 1;
         }
-        list += 1;
+        Choice::Nothing
     }
 }

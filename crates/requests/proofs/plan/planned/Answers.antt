@@ -5,8 +5,8 @@ use Rattle.requests.proofs.plan.planned.Goals as goal
 
 pub overflow_cast-result : goal.overflow_cast-result
 overflow_cast-result c =
-    let x = c.args.x in
-    let l = c.local_after-local.ensures in
-    let n = local-length x.entry x.local c.args.a c.requires.local in
+    let x = c.args.x.now in
+    let l = c.local_after.ensures in
+    let n = local-length x.entry x.local c.args.a.now c.requires.local in
     let r = c.requires.region in
     rw l (omega arith)

@@ -1,6 +1,0 @@
-pub mod Patch
-pub mod Decided
-pub mod Seek
-pub mod Find
-pub mod Oldest
-pub mod Unwalked

@@ -1,8 +1,0 @@
--- The decision is the rules', and all else follows it.
-use Rattle.portals.proofs.RequestMet.{put-met}
-use Rattle.portals.proofs.put_get.put.Goals as goal
-
-pub returns : goal.returns
-returns c =
-    put-met c.args.t c.args.memory.now c.args.q c.request_done.result c.request_decided-d.result c.args.payload.now _
-    c.request_decided-d.ensures c.request_done.ensures c.bytes_put.ensures
