@@ -10,7 +10,6 @@ use Rattle.matching.specs.declared.layout.Entry.{Entry}
 use Rattle.matching.specs.declared.layout.Request.{Request}
 use Rattle.matching.specs.Request.{arrival_of}
 use Rattle.matching.specs.declared.request.Kind.{Kind}
-use Rattle.matching.specs.declared.request.Violation.{Violation}
 use Rattle.state.specs.Sizes.{SLOTS, LAST_HANDLE}
 use Rattle.state.specs.View.{View}
 use Rattle.state.specs.declared.layout.Header.{Header}
@@ -30,12 +29,12 @@ use Rattle.portals.specs.Outcome.{Outcome, refusal, guarded}
 use Rattle.portals.specs.Making.{new}
 use Rattle.portals.specs.EventRead.{read_event}
 use Rattle.portals.specs.CounterCalls.{counter_tests, set_counter, increment}
-use Rattle.portals.specs.Request.{answer_by, request_tests, requested, put, get}
+use Rattle.portals.specs.Request.{request_tests, requested, put, get}
 use Rattle.portals.specs.EarlyMessages.{append_by, taken_by, append_tests, append, unlink_tests, unlink, search_tests, search}
 use Rattle.portals.specs.Calls.{Call, state_after, answer_to}
 use Rattle.portals.specs.Calls as calls
 use Rattle.portals.proofs.GuardLaws.{guard-cases}
-use Rattle.portals.proofs.RequestCalls.{delivery-answers, put-sound, get-sound}
+use Rattle.portals.proofs.RequestCalls.{decision-answers, put-sound, get-sound}
 use Rattle.portals.proofs.EarlyKept.{append-sound, unlink-sound, search-sound}
 use Rattle.portals.proofs.PartsKept.{new-sound, set-sound, increment-sound, read-event-sound, oldest-answers}
 use Rattle.claims.specs.Laws.{CallLaws, is_append, Handles, linked, taken, refused}
@@ -92,23 +91,17 @@ module _ (v : View) where
   unfolding search handled
   search-orderly e = guarded-orderly v tt (search_tests v e) _ refl refl
 
-  -- no decision on a request gives a refusal
-  decided-answers : (kind : Kind) (ack : ℕ) (d : Decision) → is_refused (answer_by kind ack d) ≡ false
-  decided-answers kind ack Decision.Drop = refl
-  decided-answers kind ack (Decision.Deny Violation.Permission) = refl
-  decided-answers kind ack (Decision.Deny Violation.Operation) = refl
-  decided-answers kind ack (Decision.Deliver p) = delivery-answers kind ack p
-
-  decided-size : (d : Decision) → (request_state v d).size ≡ v.size
-  decided-size Decision.Drop = refl
-  decided-size (Decision.Deny violation) = refl
-  decided-size (Decision.Deliver p) = refl
+  -- whatever is decided of a request, it keeps the size and the last handle
+  decided-keeps : (d : Decision) → ((request_state v d).size ≡ v.size) × ((request_state v d).last ≡ v.last)
+  decided-keeps Decision.Drop = (refl, refl)
+  decided-keeps (Decision.Deny violation) = (refl, refl)
+  decided-keeps (Decision.Deliver p) = (refl, refl)
 
   requested-orderly : (size : ℕ) (q : Request) (kind : Kind) (n : ℕ) (moved : Plan → List ℕ) (lent : List ℕ)
       → Orderly v lent (requested v size q kind n moved lent)
   requested-orderly size q kind n moved lent =
       let d = decide v.entries v.headers q.portal (arrival_of q kind n) in
-      guarded-orderly v lent (request_tests v size q n) _ (decided-answers kind q.ack d) (decided-size d)
+      guarded-orderly v lent (request_tests v size q n) _ (decision-answers kind q.ack d) (decided-keeps d).0
 
   put-orderly : (memory : List ℕ) (q : Request) (payload : List ℕ) → Orderly v memory (put v memory q payload)
   unfolding put
@@ -185,12 +178,6 @@ same-last : {B : Type 0} (v : View) (b : B) (tests : List Condition) (does : Out
 same-last v b tests does h =
     guard-cases (λ (o : Outcome View _). o.state.last ≡ v.last) (refusal v b) tests does (λ r. refl) (λ passed. h)
 
--- a request keeps it, whatever is decided
-request-last : (v : View) (d : Decision) → (request_state v d).last ≡ v.last
-request-last v Decision.Drop = refl
-request-last v (Decision.Deny violation) = refl
-request-last v (Decision.Deliver p) = refl
-
 last-kept : (v : View) (memory : List ℕ) (c : Call) → is_append c ≡ false → (state_after v memory c).last ≡ v.last
 unfolding unlink search handled put get read_event set_counter increment
 last-kept v memory (calls.append e) h = absurd (true≢false h)
@@ -199,9 +186,11 @@ last-kept v memory (calls.search e) h =
     same-last v tt (search_tests v e) _
     (cond_cases (λ handling. last_after v.last handling ≡ v.last) (eqb e.list 0) Handling.Look Handling.Delete (λ look. refl) (λ delete. refl))
 last-kept v memory (calls.put q payload) h =
-    same-last v memory (request_tests v (length memory) q (length payload)) _ (request-last v (decide v.entries v.headers q.portal (arrival_of q Kind.Put (length payload))))
+    same-last v memory (request_tests v (length memory) q (length payload)) _
+    (decided-keeps v (decide v.entries v.headers q.portal (arrival_of q Kind.Put (length payload)))).1
 last-kept v memory (calls.get q reply) h =
-    same-last v reply (request_tests v (length memory) q (length reply)) _ (request-last v (decide v.entries v.headers q.portal (arrival_of q Kind.Get (length reply))))
+    same-last v reply (request_tests v (length memory) q (length reply)) _
+    (decided-keeps v (decide v.entries v.headers q.portal (arrival_of q Kind.Get (length reply)))).1
 last-kept v memory calls.read_event h = refl
 last-kept v memory (calls.set_counter x) h = same-last v tt (counter_tests x.counter) _ refl
 last-kept v memory (calls.increment x) h = same-last v tt (counter_tests x.counter) _ refl

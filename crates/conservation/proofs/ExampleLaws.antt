@@ -8,8 +8,6 @@ use lib.ListN.{set}
 use Rattle.matching.specs.Entry.{bad_entry_argument}
 use Rattle.matching.specs.Request.{bad_request_argument, offset_used, available, bits_agree, allows_length, matches, verdict_on, accepted, place, local_after, unlinks, ack_given}
 use Rattle.matching.specs.EarlyMessages.{takes_headers, fits}
-use Rattle.matching.specs.declared.layout.Entry.{Entry}
-use Rattle.matching.specs.declared.layout.Request.{Request}
 use Rattle.matching.specs.declared.refusals.Refusal.{Refusal}
 use Rattle.state.specs.View.{View, empty_view}
 use Rattle.state.specs.Soundness.{Seen, sound, seen}

@@ -3,11 +3,12 @@ use mathlib.Core.Path.{◌≡◌, refl, ap, sym, ◌∙◌, subst}
 use mathlib.Core.Bool.{Bool, true, false, ◌||◌, not, cond}
 use mathlib.Core.List.{List, [], ◌∷◌, ◌++◌}
 use Rattle.std.specs.Prelude.{Option, None, Some, Result, Ok, Err}
-use Prim.Native.Nat.{ℕ, zero, suc, ◌+◌, ◌<◌, ◌≤◌, ◌%◌, ◌^◌}
+use Prim.Native.Nat.{ℕ, ◌+◌, ◌<◌, ◌≤◌, ◌%◌, ◌^◌}
 use native.Mathlib.Omega.{arith}
 use borrow.Author.Tests.{eq-eqb}
 use lib.Dec.{eqb, ltb}
 use lib.ListN.{length, take, length-map, length-append, length-take, length-drop}
+use lib.Seq.{take-nil}
 use Rattle.matching.specs.Request.{bad_request_argument, arrival_of, offset_used, accepted, place, verdict_on, ack_asked, ack_given}
 use Rattle.matching.specs.EarlyMessages.{takes_headers}
 use Rattle.matching.specs.Counters.{comm_amount}
@@ -302,10 +303,6 @@ module _ (b : Ledger) (v : View) (m : List ℕ) (r : Related b v m) (c : Call) (
       (record { passed = eq-eqb (length m) v.size r.memory i; refusal = Refusal.BadMemory } ∷ good_arguments (bad_request_argument q n) ∷ [])
       (decided-served.right i))
 
-take_none : (n : ℕ) → ◌≡◌ {A = List ℕ} (take n []) []
-take_none zero = refl
-take_none (suc n) = refl
-
 module _ (b : Ledger) (v : View) (m : List ℕ) (r : Related b v m) (q : Request) where
   module _ (payload : List ℕ) where
     pub put-served : Served b m (calls.put q payload) (put v m q payload).answer (put v m q payload).state (put v m q payload).buffer
@@ -326,7 +323,7 @@ module _ (b : Ledger) (v : View) (m : List ℕ) (r : Related b v m) (q : Request
     unwritten k =
         let x = entry_at v.entries k in
         let a = arrival_of q Kind.Get (length reply) in
-        sym (ap (overwritten m (place x.entry x.local a)) (take_none (accepted x.entry x.local a)) ∙ written_none m (place x.entry x.local a))
+        sym (ap (overwritten m (place x.entry x.local a)) (take-nil (accepted x.entry x.local a)) ∙ written_none m (place x.entry x.local a))
 
     pub get-served : Served b m (calls.get q reply) (get v m q reply).answer (get v m q reply).state m
     unfolding get
