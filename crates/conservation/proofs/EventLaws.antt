@@ -1,6 +1,6 @@
 -- The events that the ledger logs are those that the rules post.
 use mathlib.Core.Path.{◌≡◌, refl, ap, sym, ◌∙◌}
-use mathlib.Core.Bool.{Bool, true, false, ◌&&◌, ◌||◌, not, cond, false≢true, and-false, and-true}
+use mathlib.Core.Bool.{Bool, true, false, ◌&&◌, ◌||◌, not, cond, and-false, and-true}
 use mathlib.Core.List.{List, [], ◌∷◌, ◌++◌, map, map-map, map-append, append-nil, append_assoc}
 use Prim.Native.Nat.{ℕ, ◌+◌}
 use native.Mathlib.Omega.{arith}
@@ -161,7 +161,7 @@ module _ (x : Message) (others : List Header) where
       → All (λ (y : HeldEntry). y.handle ≡ x.entry.handle → y.entry ≡ x.entry.entry) l
       → any (holds x.header) l ≡ true
       → map auto_free_event (select (freed_by x.header others) l) ≡ auto_free_events (select is_linked l) x others
-  freed [] d named same e = absurd (false≢true e)
+  freed [] d named same e = cc
   freed (y ∷ l) d named same e = by (has_handle handle y) refl (freed l d'.1 named same.1)
     where
       d' : (not (any (has_handle y.handle) l) ≡ true) × (distinct l ≡ true)

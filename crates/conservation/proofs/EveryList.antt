@@ -4,7 +4,6 @@ use mathlib.Core.Bool.{Bool, true, false, cond}
 use mathlib.Core.List.{List, [], ◌∷◌, ◌++◌, map}
 use Rattle.std.specs.Prelude.{Result}
 use Prim.Native.Nat.{ℕ, zero-le}
-use native.Mathlib.Omega.{arith}
 use borrow.Author.Tests.{le-ltb}
 use lib.Dec.{eqb}
 use lib.ListN.{length}
@@ -180,7 +179,7 @@ seen-is t v e = go (is_sound t) refl e
   where
     go : (x : Bool) → is_sound t ≡ x → seen_if x t ≡ sound v → (is_sound t ≡ true) × (view_of t ≡ v)
     go true s h = (s, cc)
-    go false s h = let z : ◌≡◌ {A = ℕ} 0 1 = cc in absurd (omega arith)
+    go false s h = cc
 
 zero-register : (x y : Bool) → ◌≡◌ {A = ℕ} (cond x 0 (cond y 0 0)) 0
 zero-register true y = refl

@@ -45,14 +45,16 @@ pub data Stepped : Target → List ℕ → Line → Target → List ℕ → Type
       → PutMet t m q payload r m'
       → Stepped t m (line m (Call.put q payload) (request_answer r.answer)) r.target m'
   -- lent a memory of another length
-  put_elsewhere : {t : Target} {m : List ℕ} (lent : List ℕ) {lent' : List ℕ} (q : Request) (payload : List ℕ) (r : Done (Result RequestAnswer Refusal))
+  put_elsewhere : {t : Target} {m : List ℕ} (lent : List ℕ) {lent' : List ℕ} (q : Request) (payload : List ℕ)
+      (r : Done (Result RequestAnswer Refusal))
       → PutMet t lent q payload r lent'
       → eqb (length lent) (length m) ≡ false
       → Stepped t m (line_elsewhere m lent (request_answer r.answer)) r.target m
   get : {t : Target} {m : List ℕ} {q : Request} {reply reply' : List ℕ} (r : Done (Result RequestAnswer Refusal))
       → GetMet t m q reply r reply'
       → Stepped t m (line m (Call.get q reply) (request_answer r.answer)) r.target m
-  get_elsewhere : {t : Target} {m : List ℕ} (lent : List ℕ) (q : Request) {reply reply' : List ℕ} (r : Done (Result RequestAnswer Refusal))
+  get_elsewhere : {t : Target} {m : List ℕ} (lent : List ℕ) (q : Request) {reply reply' : List ℕ}
+      (r : Done (Result RequestAnswer Refusal))
       → GetMet t lent q reply r reply'
       → eqb (length lent) (length m) ≡ false
       → Stepped t m (line_elsewhere m lent (request_answer r.answer)) r.target m
