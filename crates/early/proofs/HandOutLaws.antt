@@ -7,18 +7,15 @@ use Rattle.std.specs.List.{filter, sum_by}
 use Rattle.std.proofs.lemmas.List.Sums.{sum_by-cons}
 use Rattle.matching.specs.declared.layout.Entry.{Entry}
 use Rattle.state.specs.Lists.{every, any, select, sum_of}
-use Rattle.state.specs.Sizes.{HEADERS}
 use Rattle.state.specs.View.{EventQueue, queue_of}
 use Rattle.state.specs.Soundness.{names}
 use Rattle.state.specs.Events.{overflow_event, auto_free_event, post, post_all}
-use Rattle.state.specs.Parts.{Fits, Holds, QueueHolds}
+use Rattle.state.specs.Parts.{QueueHolds}
 use Rattle.state.specs.declared.layout.HeldEntry.{HeldEntry}
 use Rattle.state.specs.declared.layout.Header.{Header}
 use Rattle.state.specs.declared.layout.Event.{Event}
 use Rattle.state.specs.declared.layout.Queue.{Queue}
 use Rattle.state.proofs.ListLaws.{both}
-use Rattle.state.proofs.SlotLaws.{in_use, held-count}
-use Rattle.state.proofs.TurnLaws.{slot-and-rest, none_left}
 use Rattle.state.proofs.PostLaws.{issued-posted, then-posted}
 use Rattle.early.proofs.PostingLaws.{Posting, posting-more}
 use Rattle.early.specs.HandOut.{freed_by, hand_out_event, hand_out_events}

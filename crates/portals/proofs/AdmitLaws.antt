@@ -1,9 +1,10 @@
 -- When a call is admitted, and what follows from it.
-use Rattle.std.specs.Prelude.{Result, Ok, Err, is_ok}
+use Rattle.std.specs.Prelude.{Option, None, Some, Result, Ok, Err, is_ok, position}
 use mathlib.Core.Path.{◌≡◌, refl, ap, sym, ◌∙◌}
-use mathlib.Core.Bool.{Bool, true, false, cond, false≢true}
+use mathlib.Core.Bool.{Bool, true, false, not, cond, false≢true}
 use mathlib.Core.List.{List, [], ◌∷◌}
 use Prim.Native.Nat.{ℕ, ◌<◌}
+use native.Mathlib.Omega.{arith}
 use borrow.Author.Tests.{ltb-true, eqb-true}
 use lib.Dec.{eqb, ltb}
 use lib.ListN.{length}
@@ -13,14 +14,16 @@ use Rattle.matching.specs.declared.refusals.Refusal.{Refusal}
 use Rattle.matching.specs.declared.refusals.BadArgument.{BadArgument}
 use Rattle.state.specs.Lists.{every, any}
 use Rattle.state.specs.Sizes.{COUNTERS}
-use Rattle.state.specs.View.{View, view_of, is_linked_as}
-use Rattle.state.specs.Soundness.{is_sound}
+use Rattle.state.specs.View.{View, view_of, entries_of, headers_of, is_linked_as}
+use Rattle.state.specs.Soundness.{names, is_sound}
 use Rattle.state.specs.declared.layout.Target.{Target}
+use Rattle.state.proofs.PositionLaws.{found-none, found-at}
+use Rattle.state.proofs.SlotLaws.{in_use}
 use Rattle.state.proofs.SoundLaws.{good-both}
 use Rattle.portals.specs.Refusals.{Condition, good_arguments, unless_refused}
 use Rattle.portals.specs.Admission.{admission_if, admission, Admits}
 use Rattle.portals.specs.CounterCalls.{bad_counter_argument, counter_tests, bad_poll_argument}
-use Rattle.portals.specs.EarlyMessages.{bad_handle_argument}
+use Rattle.portals.specs.EarlyMessages.{bad_handle_argument, unlink_tests, Unlinks}
 use Rattle.portals.proofs.GuardLaws.{AllPassed, guard-cases}
 
 pub not-ok : {A : Type 0} (r : Refusal) (a : A) → ◌≡◌ {A = Result A Refusal} (Err r) (Ok a) → ⊥
@@ -132,3 +135,33 @@ good-alone false argument = refl
 -- a handle is good if it is linked
 pub handle-tested : (v : View) (handle : ℕ) → none_bad (bad_handle_argument v handle) ≡ any (is_linked_as handle) v.entries
 handle-tested v handle = good-alone (any (is_linked_as handle) v.entries) BadArgument.Handle
+
+-- ## The tests of an unlink, by the place where its handle is linked
+
+module _ (t : Target) (handle : ℕ) (admits : Admits (λ v. []) t (Ok tt)) where
+  -- it is linked nowhere
+  pub unlinked-refused : position (is_linked_as handle) (entries_of t.entries) ≡ None → Admits (λ v. unlink_tests v handle) t (Err Refusal.ArgInvalid)
+  unlinked-refused e =
+      test-refused t (λ v. unlink_tests v handle) (λ v. []) admits Refusal.ArgInvalid
+      (here (handle-tested (view_of t) handle ∙ found-none (is_linked_as handle) (entries_of t.entries) e))
+
+  module _ (at : ℕ) (linked : position (is_linked_as handle) (entries_of t.entries) ≡ Some at) where
+    handle-good : none_bad (bad_handle_argument (view_of t) handle) ≡ true
+    handle-good = handle-tested (view_of t) handle ∙ (found-at (is_linked_as handle) (entries_of t.entries) at linked).0
+
+    -- a message waits in its entry
+    pub used-refused : any (names handle) (headers_of t.unexpected) ≡ true → Admits (λ v. unlink_tests v handle) t (Err Refusal.InUse)
+    used-refused e =
+        test-refused t (λ v. unlink_tests v handle) (λ v. []) admits Refusal.InUse (later handle-good (here (ap not e)))
+
+    -- none does
+    pub unlinks-at : any (names handle) (headers_of t.unexpected) ≡ false → Unlinks t handle at
+    unlinks-at e =
+        let first = (found-at (is_linked_as handle) (entries_of t.entries) at linked).1 in
+        let n : length (entries_of t.entries) ≡ t.entries.count = in_use (admits.fits refl).entries in
+        let inside : at < length (entries_of t.entries) = first.inside in
+        record {
+          admits = all-admitted t (λ v. unlink_tests v handle) (λ v. []) admits (handle-good, (ap not e, tt));
+          inside = omega arith;
+          without = first.without;
+        }

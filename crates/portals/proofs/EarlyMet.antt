@@ -3,12 +3,15 @@
 use Rattle.std.specs.Prelude.{Result, Ok}
 use mathlib.Core.Path.{◌≡◌, refl, ap, sym, ◌∙◌}
 use mathlib.Core.Bool.{Bool, true, false, cond}
+use mathlib.Core.List.{[], ◌∷◌}
 use Prim.Native.Nat.{ℕ, ◌<◌, ◌≤◌}
 use native.Mathlib.Omega.{arith}
 use borrow.Author.Tests.{ltb-true}
 use lib.Dec.{eqb, ltb}
 use lib.ListN.{length}
+use Rattle.matching.specs.Entry.{bad_entry_argument}
 use Rattle.matching.specs.declared.layout.Entry.{Entry}
+use Rattle.matching.specs.declared.refusals.Refusal.{Refusal}
 use Rattle.state.specs.Sizes.{SLOTS, HEADERS, LAST_HANDLE}
 use Rattle.state.specs.View.{View, view_of, entries_of, headers_of}
 use Rattle.state.specs.Parts.{TargetFits}
@@ -22,6 +25,7 @@ use Rattle.early.specs.Parts.{walk_of, WalkHolds, RoomFor, TargetAllows, TargetA
 use Rattle.early.specs.declared.walk.Walked.{Walked}
 use Rattle.early.specs.declared.handling.Handling.{Handling}
 use Rattle.early.proofs.AfterLaws.{walk-view, walk-allows, after-view, after-fits}
+use Rattle.portals.specs.Refusals.{good_arguments}
 use Rattle.portals.specs.Admission.{Admits}
 use Rattle.portals.specs.Answers.{Answer, SEARCHED, is_refused, appended_as}
 use Rattle.portals.specs.Outcome.{Outcome}
@@ -29,7 +33,7 @@ use Rattle.portals.specs.EarlyMessages.{taken_by, next_handle, append_by, append
 use Rattle.portals.specs.Promises.{Met}
 use Rattle.portals.proofs.AdmitLaws.{admitted-sound, admitted-passed}
 use Rattle.portals.proofs.EarlyKept.{append-sound, search-sound}
-use Rattle.portals.proofs.MetLaws.{fits-counts, Done, done-met-by}
+use Rattle.portals.proofs.MetLaws.{fits-counts, Done, Guarded, done-kept}
 
 -- ## What the functions below ask
 
@@ -86,6 +90,10 @@ handled-done t t' e w v how does answer walks after answers granted is = record 
 
 -- ## Append
 
+pub append-guarded : (e : Entry) → Guarded (λ v. append v e) (λ v. appended v e (taken_by e v.headers)) (λ v. append_tests v e) tt
+unfolding append
+append-guarded e = record { is = λ v. refl; kept = λ v s. append-sound v e s }
+
 module _ (t t' : Target) (e : Entry) (w : Walked) where
   append-by-done : (v : Walk Header) (taken : Bool)
       → WalkHolds w v
@@ -100,12 +108,10 @@ module _ (t t' : Target) (e : Entry) (w : Walked) where
       → taken ≡ found_once e (walk_of w)
       → TargetAfter t e w (append_handling (taken_or_linked taken t.last)) t'
       → Met (λ v. append v e) t tt (appended_as (taken_or_linked taken t.last)) t' tt
-  unfolding append
   append-met taken admits walks is after =
       let v = taken_by e (headers_of t.unexpected) in
       let found : taken ≡ found_once e v = is ∙ ap (found_once e) (walk-view w v walks) in
-      done-met-by (λ v. append v e) (λ v. appended v e (taken_by e v.headers)) (λ v. append_tests v e) tt (λ v. refl) (λ v. append-sound v e)
-      t t' tt (appended_as (taken_or_linked taken t.last)) admits.answer
+      done-kept (append-guarded e) t t' tt (appended_as (taken_or_linked taken t.last)) admits
       (rw (← found) (append-by-done v taken walks after))
 
 -- ## Search
@@ -117,14 +123,22 @@ search-room mode t = by (eqb mode 0)
     by true = tt
     by false = tt
 
+pub search-guarded : (e : Entry) → Guarded (λ v. search v e) (λ v. searched v e (walk_for e v.headers)) (λ v. search_tests v e) tt
+unfolding search
+search-guarded e = record { is = λ v. refl; kept = λ v s. search-sound v e s }
+
+-- its entry is tested against the target's memory
+pub search-admits : (t : Target) (e : Entry) (a : Result Unit Refusal)
+    → Admits (λ v. good_arguments (bad_entry_argument e t.size) ∷ []) t a
+    → Admits (λ v. search_tests v e) t a
+search-admits t e a h = record { answer = h.answer; fits = h.fits }
+
 pub search-met : (t t' : Target) (e : Entry) (w : Walked)
     → Admits (λ v. search_tests v e) t (Ok tt)
     → WalkHolds w (walk_for e (headers_of t.unexpected))
     → TargetAfter t e w (search_handling e.list) t'
     → Met (λ v. search v e) t tt (SEARCHED w.found.count) t' tt
-unfolding search
 search-met t t' e w admits walks after =
-    done-met-by (λ v. search v e) (λ v. searched v e (walk_for e v.headers)) (λ v. search_tests v e) tt (λ v. refl) (λ v. search-sound v e)
-    t t' tt (SEARCHED w.found.count) admits.answer
+    done-kept (search-guarded e) t t' tt (SEARCHED w.found.count) admits
     (handled-done t t' e w (walk_for e (headers_of t.unexpected)) (search_handling e.list) _ _ walks after
     (ap SEARCHED (held-count walks.found)) refl refl)

@@ -1,5 +1,6 @@
 -- How a call keeps its promise: where it is admitted it does what it is to do, and where it is refused it leaves all as it was.
-use Rattle.std.specs.Prelude.{Result, Ok, Err}
+use Rattle.std.specs.Prelude.{Result, Ok, Err, IsErrAnd}
+use Rattle.std.proofs.lemmas.Result.{err_from_is_err_and}
 use mathlib.Core.Path.{◌≡◌, refl, ap, sym, ◌∙◌, subst}
 use mathlib.Core.Bool.{Bool, true, false, cond, false≢true}
 use mathlib.Core.List.{List, [], ◌∷◌}
@@ -12,7 +13,7 @@ use Rattle.state.specs.declared.layout.Target.{Target}
 use Rattle.state.proofs.ListLaws.{joined}
 use Rattle.state.proofs.SoundLaws.{Sound, facts-sound, target_sound}
 use Rattle.portals.specs.Refusals.{Condition, unless_refused}
-use Rattle.portals.specs.Admission.{admission_if, admission}
+use Rattle.portals.specs.Admission.{admission_if, admission, Admits}
 use Rattle.portals.specs.Answers.{Answer, refused, is_refused}
 use Rattle.portals.specs.Outcome.{Outcome, refusal, guarded, guarded_read, read_unless_unsound}
 use Rattle.portals.specs.Promises.{Met, ReadMet}
@@ -132,16 +133,23 @@ module _ {B : Type 0} (call does : View → Outcome View B) (tests : View → Li
       → Met call t lent answer t' left
   met t t' left answer a e ending = met-if t t' left answer (is_sound t) refl a e ending
 
+-- `call` is `does` behind its tests, and keeps a state sound
+pub record Guarded {B : Type 0} (call does : View → Outcome View B) (tests : View → List Condition) (lent : B) : Type 0 where
+  pub is : (v : View) → call v ≡ guarded v lent (tests v) (does v)
+  pub kept : (v : View) → Sound v → Sound (call v).state
+
+module _ {B : Type 0} {call does : View → Outcome View B} {tests : View → List Condition} {lent : B} (g : Guarded call does tests lent) where
   -- a refused call that left all as it was keeps its promise
-  pub refused-met-by : (t : Target) (r : Refusal) → Err r ≡ admission tests t → Met call t lent (refused r) t lent
-  refused-met-by t r e = met t t lent (refused r) (Err r) e (record { answers = refl; state = refl; buffer = refl })
+  pub refused-kept : (t : Target) (r : Refusal) → Admits tests t (Err r) → Met call t lent (refused r) t lent
+  refused-kept t r a =
+      met call does tests lent g.is g.kept t t lent (refused r) (Err r) a.answer (record { answers = refl; state = refl; buffer = refl })
 
   -- so does an admitted one that did what it was to do
-  pub done-met-by : (t t' : Target) (left : B) (answer : Answer)
-      → Ok tt ≡ admission tests t
+  pub done-kept : (t t' : Target) (left : B) (answer : Answer)
+      → Admits tests t (Ok tt)
       → Done (does (view_of t)) t' left answer
       → Met call t lent answer t' left
-  done-met-by t t' left answer e done = met t t' left answer (Ok tt) e done
+  done-kept t t' left answer a done = met call does tests lent g.is g.kept t t' left answer (Ok tt) a.answer done
 
 -- ## A call that only reads
 
@@ -158,8 +166,18 @@ module _ (call does : View → Answer) (tests : View → List Condition) (is : (
       → ReadMet call t answer
   read-met t answer a e f = record { outcome = f ∙ ap (by_admission refused (does (view_of t))) e ∙ read-if t (is_sound t) refl }
 
-  pub read-refused : (t : Target) (r : Refusal) → Err r ≡ admission tests t → ReadMet call t (refused r)
-  read-refused t r e = read-met t (refused r) (Err r) e refl
+pub record GuardedRead (call does : View → Answer) (tests : View → List Condition) : Type 0 where
+  pub is : (v : View) → call v ≡ guarded_read (tests v) (does v)
 
-  pub read-done : (t : Target) → Ok tt ≡ admission tests t → ReadMet call t (does (view_of t))
-  read-done t e = read-met t (does (view_of t)) (Ok tt) e refl
+module _ {call does : View → Answer} {tests : View → List Condition} (g : GuardedRead call does tests) (t : Target) where
+  pub read-refused : (r : Refusal) → Admits tests t (Err r) → ReadMet call t (refused r)
+  read-refused r a = read-met call does tests g.is t (refused r) (Err r) a.answer refl
+
+  pub read-done : (answer : Answer) → Admits tests t (Ok tt) → answer ≡ does (view_of t) → ReadMet call t answer
+  read-done answer a e = read-met call does tests g.is t answer (Ok tt) a.answer e
+
+-- ## The exit of a `?`
+
+-- a refusal that is handed on is the same; a bad argument is ARG_INVALID
+pub handed-on : {A : Type 0} (r : Result A Refusal) (e : Refusal) → IsErrAnd r (λ d. d ≡ e) → r ≡ Err e
+handed-on r e h = let p = err_from_is_err_and r h in rw (p.1, p.2)

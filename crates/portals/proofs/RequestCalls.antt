@@ -1,5 +1,4 @@
 -- What put and get decide: how, what it leaves, and what it lets them do.
-use Rattle.std.specs.Prelude.{Result, Ok}
 use mathlib.Core.Path.{◌≡◌, refl}
 use mathlib.Core.Bool.{true, false, ◌||◌, not}
 use mathlib.Core.List.{List}
@@ -28,7 +27,7 @@ use Rattle.requests.proofs.RequestKept.{request-sound}
 use Rattle.requests.proofs.DecisionLaws.{claim-follows}
 use Rattle.portals.specs.Answers.{Answer, PRIORITY, OVERFLOW, is_refused}
 use Rattle.portals.specs.Outcome.{Outcome, refusal}
-use Rattle.portals.specs.Request.{delivery_answer, answer_by, request_tests, carried_out, requested, put, get, DecidedAs}
+use Rattle.portals.specs.Request.{delivery_answer, answer_by, request_tests, carried_out, requested, put, get, ByRules}
 use Rattle.portals.proofs.GuardLaws.{guard-cases}
 
 -- a request whose arguments are good asks for at most 65,536 bytes
@@ -77,10 +76,10 @@ decision-answers kind ack (Decision.Deliver p) = delivery-answers kind ack p
 
 -- ## What a decision to deliver lets the bytes and the parts ask
 
-module _ (t : Target) (size : ℕ) (q : Request) (kind : Kind) (n : ℕ) (d : Decision) (decides : DecidedAs t size q kind n (Ok d)) where
+module _ (t : Target) (size : ℕ) (q : Request) (kind : Kind) (n : ℕ) (d : Decision) (decides : ByRules t size q kind n d) where
   pub bytes-asked : OfDelivery (λ p. BytesFit size n p.message) d
   bytes-asked =
-      claim-follows (Deliverable t n) (λ p. BytesFit size n p.message) (λ p h. rw decides.1.0 h.bytes) d decides.1.1.deliverable
+      claim-follows (Deliverable t n) (λ p. BytesFit size n p.message) (λ p h. rw decides.memory h.bytes) d decides.decides.deliverable
 
   pub parts-asked : OfDelivery (PartsAllow t) d
-  parts-asked = claim-follows (Deliverable t n) (PartsAllow t) (λ p h. h.parts) d decides.1.1.deliverable
+  parts-asked = claim-follows (Deliverable t n) (PartsAllow t) (λ p h. h.parts) d decides.decides.deliverable

@@ -1,6 +1,6 @@
 -- How put and get keep their promises: where the decision is the rules', and every part, the answer and the buffer are left as it says.
-use Rattle.std.specs.Prelude.{Result, Ok}
-use mathlib.Core.Path.{◌≡◌, refl, ap, sym, ◌∙◌}
+use mathlib.Core.Path.{◌≡◌, refl}
+use mathlib.Core.Bool.{true}
 use mathlib.Core.List.{List}
 use Prim.Native.Nat.{ℕ}
 use lib.ListN.{length}
@@ -17,10 +17,10 @@ use Rattle.requests.specs.Parts.{TargetAfter}
 use Rattle.requests.specs.declared.plan.Plan.{Plan}
 use Rattle.requests.specs.declared.decision.Decision.{Decision}
 use Rattle.portals.specs.Answers.{Answer}
-use Rattle.portals.specs.Request.{answer_by, request_tests, carried_out, put, get, DecidedAs}
+use Rattle.portals.specs.Request.{answer_by, request_tests, carried_out, put, get, ByRules}
 use Rattle.portals.specs.Promises.{Met}
 use Rattle.portals.proofs.RequestCalls.{put-sound, get-sound, decision-answers}
-use Rattle.portals.proofs.MetLaws.{fits-counts, Done, done-met-by}
+use Rattle.portals.proofs.MetLaws.{fits-counts, Done, Guarded, done-kept}
 
 -- ## The state that is left
 
@@ -54,25 +54,34 @@ module _ (t t' : Target) where
 
 -- ## The promise
 
+module _ (memory : List ℕ) (q : Request) where
+  pub put-guarded : (payload : List ℕ)
+      → Guarded (λ v. put v memory q payload)
+      (λ v. carried_out v q Kind.Put (bytes_put memory payload) memory (decide v.entries v.headers q.portal (arrival_of q Kind.Put (length payload))))
+      (λ v. request_tests v (length memory) q (length payload))
+      memory
+  unfolding put
+  put-guarded payload = record { is = λ v. refl; kept = λ v s. put-sound v memory q payload s }
+
+  pub get-guarded : (reply : List ℕ)
+      → Guarded (λ v. get v memory q reply)
+      (λ v. carried_out v q Kind.Get (bytes_got memory reply) reply (decide v.entries v.headers q.portal (arrival_of q Kind.Get (length reply))))
+      (λ v. request_tests v (length memory) q (length reply))
+      reply
+  unfolding get
+  get-guarded reply = record { is = λ v. refl; kept = λ v s. get-sound v memory q reply s }
+
 module _ (t t' : Target) (memory : List ℕ) (q : Request) (d : Decision) (after : TargetAfter t d t') where
   pub put-met : (payload : List ℕ)
-      → DecidedAs t (length memory) q Kind.Put (length payload) (Ok d)
+      → ByRules t (length memory) q Kind.Put (length payload) d
       → Met (λ v. put v memory q payload) t memory (answer_by Kind.Put q.ack d) t' (if_delivered (bytes_put memory payload) memory d)
-  unfolding put
-  put-met payload decides =
-      done-met-by (λ v. put v memory q payload)
-      (λ v. carried_out v q Kind.Put (bytes_put memory payload) memory (decide v.entries v.headers q.portal (arrival_of q Kind.Put (length payload))))
-      (λ v. request_tests v (length memory) q (length payload)) memory (λ v. refl) (λ v. put-sound v memory q payload)
-      t t' (if_delivered (bytes_put memory payload) memory d) (answer_by Kind.Put q.ack d) decides.0.answer
-      (rw (← decides.1.1.is) (request-done t t' q Kind.Put (bytes_put memory payload) memory d (fits-counts t (decides.0.fits refl)) after))
+  put-met payload r =
+      done-kept (put-guarded memory q payload) t t' (if_delivered (bytes_put memory payload) memory d) (answer_by Kind.Put q.ack d) r.admits
+      (rw (← r.decides.is) (request-done t t' q Kind.Put (bytes_put memory payload) memory d (fits-counts t (r.admits.fits refl)) after))
 
   pub get-met : (reply : List ℕ)
-      → DecidedAs t (length memory) q Kind.Get (length reply) (Ok d)
+      → ByRules t (length memory) q Kind.Get (length reply) d
       → Met (λ v. get v memory q reply) t reply (answer_by Kind.Get q.ack d) t' (if_delivered (bytes_got memory reply) reply d)
-  unfolding get
-  get-met reply decides =
-      done-met-by (λ v. get v memory q reply)
-      (λ v. carried_out v q Kind.Get (bytes_got memory reply) reply (decide v.entries v.headers q.portal (arrival_of q Kind.Get (length reply))))
-      (λ v. request_tests v (length memory) q (length reply)) reply (λ v. refl) (λ v. get-sound v memory q reply)
-      t t' (if_delivered (bytes_got memory reply) reply d) (answer_by Kind.Get q.ack d) decides.0.answer
-      (rw (← decides.1.1.is) (request-done t t' q Kind.Get (bytes_got memory reply) reply d (fits-counts t (decides.0.fits refl)) after))
+  get-met reply r =
+      done-kept (get-guarded memory q reply) t t' (if_delivered (bytes_got memory reply) reply d) (answer_by Kind.Get q.ack d) r.admits
+      (rw (← r.decides.is) (request-done t t' q Kind.Get (bytes_got memory reply) reply d (fits-counts t (r.admits.fits refl)) after))

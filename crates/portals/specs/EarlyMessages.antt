@@ -108,10 +108,13 @@ abbrev pub append_handling : Appended → Handling
 append_handling (Append.Linked handle) = Handling.Link handle
 append_handling Append.Taken = Handling.Take
 
--- an unlink is refused as its tests say, or goes on with the place of the entry that is linked with the handle
+-- an unlink that passed its tests has an entry to unlink, the first that is linked with the handle
+pub record Unlinks (t : Target) (handle at : ℕ) : Type 0 where
+  pub admits : Admits (λ v. unlink_tests v handle) t (Ok tt)
+  pub inside : at < t.entries.count
+  pub without : remove_at at (entries_of t.entries) ≡ without_first (is_linked_as handle) (entries_of t.entries)
+
+-- an unlink is refused as its tests say, or goes on with the place of that entry
 abbrev pub UnlinkTested : Target → ℕ → Result ℕ Refusal → Type 0
 UnlinkTested t handle (Err r) = Admits (λ v. unlink_tests v handle) t (Err r)
-UnlinkTested t handle (Ok at) =
-    Admits (λ v. unlink_tests v handle) t (Ok tt)
-    × (at < t.entries.count)
-    × (remove_at at (entries_of t.entries) ≡ without_first (is_linked_as handle) (entries_of t.entries))
+UnlinkTested t handle (Ok at) = Unlinks t handle at

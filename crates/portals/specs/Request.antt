@@ -67,8 +67,13 @@ get v memory q reply = requested v (length memory) q Kind.Get (length reply) (by
 
 -- ## What the calls are made of. No promise of a call cites these.
 
--- a request is refused as its tests say, or decided by the rules, on a memory of the state's size
+-- a request that passed its tests, on a memory of the state's size, is decided by the rules
+pub record ByRules (t : Target) (size : ℕ) (q : Request) (kind : Kind) (n : ℕ) (d : Decision) : Type 0 where
+  pub admits : Admits (λ v. request_tests v size q n) t (Ok tt)
+  pub memory : size ≡ t.size
+  pub decides : Decides t q.portal (arrival_of q kind n) d
+
+-- a request is refused as its tests say, or decided
 abbrev pub DecidedAs : Target → ℕ → Request → Kind → ℕ → Result Decision Refusal → Type 0
 DecidedAs t size q kind n (Err r) = Admits (λ v. request_tests v size q n) t (Err r)
-DecidedAs t size q kind n (Ok d) =
-    Admits (λ v. request_tests v size q n) t (Ok tt) × (size ≡ t.size) × Decides t q.portal (arrival_of q kind n) d
+DecidedAs t size q kind n (Ok d) = ByRules t size q kind n d

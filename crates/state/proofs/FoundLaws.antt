@@ -1,5 +1,5 @@
 -- What the library's searches of a slice tell, in the words of Lists and Soundness.
-use Rattle.std.proofs.Common.{◌≡◌, ℕ, suc, ◌+◌, ◌<◌, ◌≤◌, Bool, true, false, not, ◌&&◌, ◌||◌, ltb, List, [], ◌∷◌, ◌++◌, length, take, drop, Option, None, Some, Iter, Bor, sym, refl, ap, ◌∙◌, add-one, arith, ltb-true, ne_eqb, length-take, take-append-drop}
+use Rattle.std.proofs.Common.{◌≡◌, ℕ, suc, ◌<◌, ◌≤◌, Bool, true, false, ◌&&◌, ◌||◌, ltb, List, [], ◌∷◌, ◌++◌, length, take, drop, Option, None, Some, Iter, Bor, sym, refl, ap, ◌∙◌, add-one, arith, ltb-true, ne_eqb, length-take, take-append-drop}
 use Rattle.std.specs.Fn.{Called}
 use Rattle.std.specs.Iterator.{YieldsThen}
 use Rattle.std.specs.List.{list_any, list_all, AllAdjacentBelow, FoldsTo, AllWithin, HoldsAt, IsAllAdjacentAnswer}

@@ -9,10 +9,10 @@ pub loop-i-preserved : goal.loop-i-preserved
 loop-i-preserved c =
     let x = entry_at c.loop-i.es.slots c.loop-i.i in
     elim c.if-keeps_slot.branch [
-      then-keeps_slot w ↦
-        rw (w.es-is, w.kept-is)
-        (FiltersInPlace-more_set {x = x} c.loop-i.invariant (omega arith) (sym c.keeps_slot.ensures ∙ w.if-keeps_slot.true) (search rules))
-    | else-keeps_slot w ↦
-        rw (w.es-is, w.kept-is)
-        (FiltersInPlace-more_no {x = x} c.loop-i.invariant (omega arith) (sym c.keeps_slot.ensures ∙ w.if-keeps_slot.false) (search rules))
+      | then-keeps_slot w ↦
+          rw (w.es-is, w.kept-is)
+          (FiltersInPlace-more_set {x = x} c.loop-i.invariant (omega arith) (sym c.keeps_slot.ensures ∙ w.if-keeps_slot.true) (search rules))
+      | else-keeps_slot w ↦
+          rw (w.es-is, w.kept-is)
+          (FiltersInPlace-more_no {x = x} c.loop-i.invariant (omega arith) (sym c.keeps_slot.ensures ∙ w.if-keeps_slot.false) (search rules))
     ]

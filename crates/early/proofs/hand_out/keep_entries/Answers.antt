@@ -1,5 +1,5 @@
 -- Where nothing was found all keep their slot.
-use Rattle.std.proofs.Common.{◌≡◌, ℕ, sym, arith}
+use Rattle.std.proofs.Common.{◌≡◌, sym, arith}
 use Rattle.state.specs.View.{entries_of, headers_of}
 use Rattle.state.specs.Soundness.{keeps_slot}
 use Rattle.early.proofs.HandOutLaws.{select-all}

@@ -9,6 +9,6 @@ use Rattle.early.proofs.hand_out.overflow_amounts.Goals as goal
 pub returns : goal.returns
 returns c =
     let amount = λ (h : Header). overflow_amount c.args.options h.accepted in
-    sum_by_from_yields_List amount c.args.found.now c.map-amounts.result c.sum.result c.sum.ensures.ran
-    (YieldsList-from_map _ amount (YieldsList-from_slice c.args.found.now cc) c.map-amounts.ensures.closure (λ x r q k. search (rules, tests)))
+    sum_by_from_yields_List amount c.args.found.now c.map.result c.sum.result c.sum.ensures.ran
+    (YieldsList-from_map _ amount (YieldsList-from_slice c.args.found.now cc) c.map.ensures.closure (λ x r q k. search (rules, tests)))
     ∙ sum_of-by amount c.args.found.now

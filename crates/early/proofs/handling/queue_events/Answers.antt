@@ -1,6 +1,6 @@
 -- What was found comes first; then what closes the search, or LINK.
 use Rattle.std.proofs.Common.{[], ◌∷◌, map}
-use Rattle.state.specs.View.{headers_of, queue_of}
+use Rattle.state.specs.View.{queue_of}
 use Rattle.state.specs.Events.{link_event, search_event}
 use Rattle.state.proofs.PostLaws.{issued-posted, then-posted}
 use Rattle.early.specs.HandOut.{hand_out_events}
