@@ -15,10 +15,10 @@ use Rattle.state.specs.declared.layout.CounterChange.{CounterChange}
 use Rattle.state.specs.declared.layout.CounterTest.{CounterTest}
 use Rattle.state.proofs.ListLaws.{cond_cases}
 use Rattle.portals.specs.Refusals.{Condition, good_arguments, unless_refused}
-use Rattle.portals.specs.Answers.{Answer, DONE, COUNTER, REGISTER, READY, NOT_READY, refused}
+use Rattle.portals.specs.Answers.{Answer, DONE, COUNTER, REGISTER, READY, NOT_READY, refused, reached_answer}
 use Rattle.portals.specs.Outcome.{Outcome, refusal, guarded, guarded_read}
 use Rattle.portals.specs.EventRead.{oldest_of, read_event}
-use Rattle.portals.specs.CounterCalls.{counter_tests, counter_done, is_ready, bad_poll_argument, reached_from, reached_answer, bad_register_argument, set_counter, increment, read_counter, read_register, ready, poll}
+use Rattle.portals.specs.CounterCalls.{counter_tests, counter_done, is_ready, bad_poll_argument, reached_from, bad_register_argument, set_counter, increment, read_counter, read_register, ready, poll}
 use Rattle.portals.specs.Calls.{Call}
 use Rattle.portals.specs.Calls as calls
 use Rattle.portals.proofs.GuardLaws.{guard-cases, unless-map}

@@ -2,12 +2,12 @@
 use mathlib.Core.Path.{◌≡◌, refl, ap, sym, ◌∙◌, subst}
 use mathlib.Core.Bool.{Bool, true, false, cond}
 use mathlib.Core.List.{List, [], ◌∷◌, ◌++◌, map}
+use Rattle.std.specs.Prelude.{Result}
 use Prim.Native.Nat.{ℕ, zero-le}
-use native.Mathlib.Omega.{arith}
 use borrow.Author.Tests.{le-ltb}
 use lib.Dec.{eqb}
 use lib.ListN.{length}
-use Rattle.matching.specs.declared.refusals.Refusal.TheVariants as Refusal
+use Rattle.matching.specs.declared.refusals.Refusal.{Refusal}
 use Rattle.state.specs.Lists.{every, select}
 use Rattle.state.specs.View.{View, view_of, is_linked, empty_view}
 use Rattle.state.specs.Soundness.{Seen, sound, seen, seen_if, is_sound, sound_view, header_sound}
@@ -18,15 +18,15 @@ use Rattle.state.proofs.ListLaws.{both}
 use Rattle.state.proofs.SoundLaws.{sound-facts}
 use Rattle.portals.specs.Refusals.{good_arguments}
 use Rattle.portals.specs.Answers.{Answer, MADE, refused}
-use Rattle.portals.specs.Outcome.{Outcome, unless_unsound, read_unless_unsound}
+use Rattle.portals.specs.Outcome.{Outcome, refusal, unless_unsound, read_unless_unsound}
 use Rattle.portals.specs.Making as making
 use Rattle.portals.specs.Request.{put, get}
 use Rattle.portals.specs.Promises.{Met, ReadMet, NewMet}
 use Rattle.portals.specs.Calls.{Call, state_after, answer_to}
 use Rattle.portals.specs.Calls as calls
-use Rattle.portals.specs.declared.answers.NewDone.{NewDone}
+use Rattle.portals.specs.declared.answers.Done.{Done}
 use Rattle.portals.proofs.GuardLaws.{guard-cases}
-use Rattle.claims.proofs.CallLaws.{call-laws}
+use Rattle.claims.proofs.CallLaws.{call_laws}
 use Rattle.conservation.specs.Steps.{called, events_read}
 use Rattle.conservation.specs.Ledger.{Ledger, empty, hear, message_at, header_at}
 use Rattle.conservation.specs.Runs.{Line, line, line_elsewhere, Stepped, Ran}
@@ -38,7 +38,6 @@ use Rattle.conservation.proofs.Relations.{Home, Follows, At, Reaches}
 use Rattle.conservation.proofs.StepLaws.{Kept, kept-follows}
 use Rattle.conservation.proofs.CounterSteps as counters
 use Rattle.conservation.proofs.EarlySteps as early
-use Rattle.conservation.proofs.RequestSteps.{Refused}
 use Rattle.conservation.proofs.RequestSteps as requests
 use Rattle.conservation.proofs.SlotLaws.{waits-in-own}
 use Rattle.conservation.proofs.StayLaws.{began, bytes-stand}
@@ -88,15 +87,15 @@ module _ (b : Ledger) (t : Target) (m : List ℕ) (h : At b t m) where
 
   -- lent a memory of another length, and refused for it
   by-another : (call : View → Outcome View (List ℕ)) (lent given left : List ℕ) (answer : Answer) (t' : Target) → Met call t given answer t' left
-      → Refused v (call v)
+      → call v ≡ refusal v given Refusal.BadMemory
       → ((answer : Answer) → answer ≡ refused Refusal.BadMemory → Follows b m (line_elsewhere m lent answer) v m)
       → Reaches b m (line_elsewhere m lent answer) t' m
   by-another call lent given left answer t' p bad f =
       let e = p.outcome ∙ ap (λ (s : Seen). unless_unsound call s given) h.is in
       record {
         view = v;
-        is = ap (λ (o : Outcome Seen (List ℕ)). o.state) e ∙ ap sound bad.state;
-        follows = f answer (ap (λ (o : Outcome Seen (List ℕ)). o.answer) e ∙ bad.answer);
+        is = ap (λ (o : Outcome Seen (List ℕ)). o.state) e ∙ ap (λ (o : Outcome View (List ℕ)). sound o.state) bad;
+        follows = f answer (ap (λ (o : Outcome Seen (List ℕ)). o.answer) e ∙ ap (λ (o : Outcome View (List ℕ)). o.answer) bad);
       }
 
 -- one clause for each kind of step
@@ -180,7 +179,7 @@ seen-is t v e = go (is_sound t) refl e
   where
     go : (x : Bool) → is_sound t ≡ x → seen_if x t ≡ sound v → (is_sound t ≡ true) × (view_of t ≡ v)
     go true s h = (s, cc)
-    go false s h = let z : ◌≡◌ {A = ℕ} 0 1 = cc in absurd (omega arith)
+    go false s h = cc
 
 zero-register : (x y : Bool) → ◌≡◌ {A = ℕ} (cond x 0 (cond y 0 0)) 0
 zero-register true y = refl
@@ -215,11 +214,11 @@ made-empty s =
     (λ why. refl)
     (λ passed. refl)
 
-starts : (s : Settings) (new : NewDone) (m : List ℕ) → NewMet s new → length m ≡ (view_of new.target).size → At empty new.target m
+starts : (s : Settings) (new : Done (Result Unit Refusal)) (m : List ℕ) → NewMet s new → length m ≡ (view_of new.target).size → At empty new.target m
 starts s new m p fits =
     let size = (making.new s).state.size in
     let is = p.state ∙ ap sound (made-empty s) in
-    begins size new.target m is (subst (λ v. sound_view v ≡ true) (made-empty s) (call-laws.made s))
+    begins size new.target m is (subst (λ v. sound_view v ≡ true) (made-empty s) (call_laws.made s))
     (fits ∙ ap (λ (v : View). v.size) (seen-is new.target (empty_view size) is).1)
 
 -- ## The claim

@@ -14,7 +14,7 @@ use Rattle.state.proofs.ListLaws.{cond_cases, neither}
 use Rattle.portals.specs.Answers.{Answer, refused}
 use Rattle.portals.specs.Calls.{Call, state_after, answer_to}
 use Rattle.portals.specs.Calls as calls
-use Rattle.claims.proofs.CallLaws.{call-laws}
+use Rattle.claims.proofs.CallLaws.{call_laws}
 use Rattle.conservation.specs.Steps.{called, count, event_in, events_read, says_linked, says_dropped, says_perm, says_op}
 use Rattle.conservation.specs.Ledger.{counters_after, Ledger, Effect, Fates, nothing, call_effect, linked_after, arrivals_of, waiting_after, hand_outs, issued_by, add_all, effect_heard}
 use Rattle.conservation.specs.Runs.{line}
@@ -78,8 +78,8 @@ module _ (b : Ledger) (v : View) (m : List ℕ) (r : Related b v m) where
       → Follows b m (line m c (answer_to v m c)) (state_after v m c) m'
   kept-follows c m' size answer k = record {
     related = subst (λ e. Related (effect_heard b e (answer_to v m c ∷ [])) (state_after v m c) m') (sym k.effect) (record {
-      is_sound = call-laws.sound v m c r.is_sound;
-      memory = size ∙ r.memory ∙ sym (call-laws.fixed v m c);
+      is_sound = call_laws.sound v m c r.is_sound;
+      memory = size ∙ r.memory ∙ sym (call_laws.fixed v m c);
       linked = k.linked;
       headers = k.messages.headers;
       homes = k.messages.homes;
