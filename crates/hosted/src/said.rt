@@ -9,32 +9,27 @@ use portals::answers::{
 use printer::said;
 use std::io;
 use std::io::Stdout;
-
-// A line: the first bytes of a buffer.
-fn first(stdout: Stdout, out: &[u8], n: usize) -> io::Result<()> {
-    if n <= out.len() {
-        stdout.write_all(&out[..n])?;
-    }
-    Ok(())
-}
+use text::writing::Writer;
 
 // How the call was made, and its line.
-fn say(stdout: Stdout, way: &[u8], out: &[u8; 400], n: usize) -> io::Result<()> {
+fn say(stdout: Stdout, way: &[u8], line: &[u8]) -> io::Result<()> {
     stdout.write_all(way)?;
-    first(stdout, out, n)?;
+    stdout.write_all(line)?;
     stdout.write_all(b"\n")
 }
 
 pub fn say_append(stdout: Stdout, way: &[u8], k: usize, a: AppendAnswer) -> io::Result<()> {
     let mut out = [0u8; 400];
-    let n = said::append_said(&mut out, k, a);
-    say(stdout, way, &out, n)
+    let mut w = Writer::new(&mut out);
+    said::append_said(&mut w, k, a);
+    say(stdout, way, w.written())
 }
 
 fn say_refused(stdout: Stdout, way: &[u8], k: usize, refusal: Refusal) -> io::Result<()> {
     let mut out = [0u8; 400];
-    let n = said::plain_said(&mut out, k, PlainAnswer::Refused(refusal));
-    say(stdout, way, &out, n)
+    let mut w = Writer::new(&mut out);
+    said::plain_said(&mut w, k, PlainAnswer::Refused(refusal));
+    say(stdout, way, w.written())
 }
 
 // A word, and numbers behind it.
@@ -42,14 +37,16 @@ fn say_word(stdout: Stdout, way: &[u8], k: usize, word: &[u8], numbers: &[u64]) 
     requires { 20 + length word.now + 21 * length numbers.now ≤ 400 }
 {
     let mut out = [0u8; 400];
-    let n = said::put_said(&mut out, k, word, numbers);
-    say(stdout, way, &out, n)
+    let mut w = Writer::new(&mut out);
+    said::put_said(&mut w, k, word, numbers);
+    say(stdout, way, w.written())
 }
 
 pub fn say_put(stdout: Stdout, way: &[u8], k: usize, a: RequestAnswer) -> io::Result<()> {
     let mut out = [0u8; 400];
-    let n = said::request_said(&mut out, k, a);
-    say(stdout, way, &out, n)
+    let mut w = Writer::new(&mut out);
+    said::request_said(&mut w, k, a);
+    say(stdout, way, w.written())
 }
 
 pub fn say_new(stdout: Stdout, way: &[u8], k: usize, a: NewAnswer) -> io::Result<()> {
