@@ -9,12 +9,10 @@ use std::io;
 use std::io::Stdout;
 use text::writing::Writer;
 
-// A line: how the call was made, and what was written of it.
-fn say(stdout: Stdout, way: &[u8], w: &Writer) -> io::Result<()>
-    requires { w.now.at ≤ length w.now.out.now }
-{
+// How the call was made, and its line.
+fn say(stdout: Stdout, way: &[u8], line: &[u8]) -> io::Result<()> {
     stdout.write_all(way)?;
-    stdout.write_all(w.written())?;
+    stdout.write_all(line)?;
     stdout.write_all(b"\n")
 }
 
@@ -27,14 +25,14 @@ pub fn say_append(
     let mut out = [0u8; 400];
     let mut w = Writer::new(&mut out);
     said::append_said(&mut w, k, a);
-    say(stdout, way, &w)
+    say(stdout, way, w.written())
 }
 
 fn say_refused(stdout: Stdout, way: &[u8], k: usize, refusal: Refusal) -> io::Result<()> {
     let mut out = [0u8; 400];
     let mut w = Writer::new(&mut out);
     said::plain_said(&mut w, k, Err(refusal));
-    say(stdout, way, &w)
+    say(stdout, way, w.written())
 }
 
 // A word, and numbers behind it.
@@ -44,7 +42,7 @@ fn say_word(stdout: Stdout, way: &[u8], k: usize, word: &[u8], numbers: &[u64]) 
     let mut out = [0u8; 400];
     let mut w = Writer::new(&mut out);
     said::put_said(&mut w, k, word, numbers);
-    say(stdout, way, &w)
+    say(stdout, way, w.written())
 }
 
 pub fn say_put(
@@ -56,7 +54,7 @@ pub fn say_put(
     let mut out = [0u8; 400];
     let mut w = Writer::new(&mut out);
     said::request_said(&mut w, k, a);
-    say(stdout, way, &w)
+    say(stdout, way, w.written())
 }
 
 pub fn say_new(stdout: Stdout, way: &[u8], k: usize, a: Result<(), Refusal>) -> io::Result<()> {

@@ -1,5 +1,5 @@
 -- How a file is judged, and what holds of one that is good.
-use mathlib.Core.Path.{◌≡◌, refl, sym, ◌∙◌}
+use mathlib.Core.Path.{◌≡◌, refl}
 use mathlib.Core.Bool.{Bool, true, false, cond, ◌&&◌}
 use mathlib.Core.List.{List}
 use Prim.Native.Nat.{ℕ, zero, suc, ◌+◌, ◌-◌, ◌≤◌, ◌<◌}
@@ -11,9 +11,8 @@ use lib.ListN.{length}
 use Rattle.std.specs.Prelude.{Option, Some, None, Result, Ok, Err}
 use Rattle.state.proofs.ListLaws.{both}
 use Rattle.reader.specs.Contents.{HEAD, CALLS, head_of, line_at, body_length, body_lengths}
-use Rattle.reader.specs.Calls.{call_kind, length_at, call_of, line_call}
-use Rattle.reader.specs.Judging.{FILE, SCRIPT_MEMORY, good_fields, bodies_start, good_size, good_head, good_body, formed_as, well_formed, good_line, good_call, first_bad_call, verdict_of}
-use Rattle.reader.specs.declared.contents.Head.{Head}
+use Rattle.reader.specs.Calls.{call_kind}
+use Rattle.reader.specs.Judging.{FILE, SCRIPT_MEMORY, good_fields, bodies_start, good_size, good_head, good_body, formed_as, well_formed, good_call, first_bad_call, verdict_of}
 use Rattle.reader.specs.declared.contents.Line.{Line}
 use Rattle.reader.specs.declared.calls.CallKind.{CallKind}
 use Rattle.reader.specs.declared.calls.UnknownKind.{UnknownKind}

@@ -8,7 +8,7 @@ use crate::numbers;
 use matching::layout::{Entry, Request};
 use state::layout::CounterChange;
 
-#[derive(Clone, Copy)]
+#[derive(Clone, Copy, Debug, PartialEq, Eq)]
 pub enum CallKind {
     Append,
     Unlink,
@@ -47,7 +47,7 @@ pub enum Call {
 }
 
 // A number that no kind of call has.
-#[derive(Clone, Copy)]
+#[derive(Clone, Copy, Debug, PartialEq, Eq)]
 pub struct UnknownKind(pub u8);
 
 // The numbers of the kinds are 1 to 10.

@@ -6,8 +6,8 @@ use native.Mathlib.Omega.{arith}
 use native.Mathlib.Numerals.{add-one}
 use borrow.Author.Tests.{le-leb}
 use lib.ListN.{length, take, drop, replicate, length-drop, length-append, length-replicate}
-use lib.Seq.{length-take-le, take-length, take_at, drop_at, drop-drop}
-use Rattle.std.specs.Prelude.{Option, Some, Result, Ok, Err}
+use lib.Seq.{take-length, take_at, drop_at, drop-drop}
+use Rattle.std.specs.Prelude.{Some, Result, Ok, Err}
 use Rattle.state.specs.Sizes.{MEMORY}
 use Rattle.state.specs.View.{view_of}
 use Rattle.state.specs.Soundness.{seen}
@@ -29,7 +29,7 @@ use Rattle.reader.specs.declared.contents.Line.{Line}
 use Rattle.reader.specs.Judging.{SCRIPT_MEMORY, verdict_of}
 use Rattle.reader.specs.declared.contents.Head.{Head}
 use Rattle.reader.specs.declared.judging.BadScript.{BadScript}
-use Rattle.reader.proofs.JudgingLaws.{HeadGood, good_script_head}
+use Rattle.reader.proofs.JudgingLaws.{good_script_head}
 use Rattle.script.specs.Run.{asked, called}
 use Rattle.script.specs.Printout.{call_at, calls_from, line_of, lines_from, printout_by, printout_of}
 use Rattle.script.specs.Log.{logged, log_from, log_of}

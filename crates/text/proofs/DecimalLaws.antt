@@ -2,24 +2,16 @@
 use Prim.Native.Nat.{ℕ, zero, suc, ◌+◌, ◌/◌, ◌%◌, ◌^◌, ◌≤◌, ◌<◌}
 use mathlib.Core.Path.{◌≡◌, refl, sym, ap, ◌∙◌}
 use mathlib.Core.List.{List, [], ◌∷◌, ◌++◌}
-use mathlib.Core.Logic.{◌⊎◌, inl, inr, ⊎_elim}
-use mathlib.Core.Bool.{Bool, true, false}
+use mathlib.Core.Bool.{Bool, true, false, cond}
 use native.Mathlib.Nat.{pow-suc}
 use lib.Dec.{ltb}
 use native.Mathlib.Omega.{arith}
 use lib.ListN.{length, length-append}
-use borrow.Author.Tests.{lt-ltb, le-ltb, ltb-true, ltb-false}
+use borrow.Author.Tests.{lt-ltb, le-ltb}
 use Rattle.text.specs.Text.{digits_of, decimal_of}
 use Rattle.text.specs.Writing.{Wrote}
 use Rattle.text.specs.declared.writing.Writer.{Writer}
 use Rattle.text.proofs.WritingLaws.{and_then, as_text}
-
-by-test : (n m : ℕ) (b : Bool) → ltb n m ≡ b → (n < m) ⊎ (m ≤ n)
-by-test n m true e = inl (ltb-true n m e)
-by-test n m false e = inr (ltb-false n m e)
-
-lt-or-le : (n m : ℕ) → (n < m) ⊎ (m ≤ n)
-lt-or-le n m = by-test n m (ltb n m) refl
 
 -- a number of k digits has the same digits where one more is allowed
 more : (k n : ℕ) → n < 10 ^ suc k → digits_of (suc k) n ≡ digits_of (suc (suc k)) n
@@ -27,25 +19,28 @@ unfolding digits_of
 more zero n h = rw (lt-ltb n 10 h)
 more (suc k) n h =
     let less : n / 10 < 10 ^ suc k = omega (arith, rw (pow-suc 10 (suc k)) at h) in
-    ⊎_elim (λ small. simp (lt-ltb n 10 small))
-    (λ large. simp (le-ltb n 10 large) (ap (λ (l : List ℕ). l ++ ((48 + n % 10) ∷ [])) (more k (n / 10) less))) (lt-or-le n 10)
+    rw (digits_of, digits_of, more k (n / 10) less) refl
 
 decimal-more : (n : ℕ) → 10 ≤ n → n < 10 ^ 20 → decimal_of n ≡ decimal_of (n / 10) ++ ((48 + n % 10) ∷ [])
 unfolding decimal_of digits_of
 decimal-more n large h =
     let less : n / 10 < 10 ^ 19 = omega arith in
-    rw (le-ltb n 10 large) (ap (λ (l : List ℕ). l ++ ((48 + n % 10) ∷ [])) (more 18 (n / 10) less))
+    rw (le-ltb n 10 large, more 18 (n / 10) less) refl
 
 decimal-one : (n : ℕ) → n < 10 → decimal_of n ≡ (48 + n) ∷ []
 unfolding decimal_of digits_of
 decimal-one n h = rw (lt-ltb n 10 h)
 
+cond-short : (b : Bool) (xs ys : List ℕ) (n : ℕ) → length xs ≤ n → length ys ≤ n → length (cond b xs ys) ≤ n
+cond-short true xs ys n h k = h
+cond-short false xs ys n h k = k
+
 digits-short : (k n : ℕ) → length (digits_of k n) ≤ k
 unfolding digits_of
 digits-short zero n = omega arith
 digits-short (suc k) n =
-    ⊎_elim (λ small. simp (lt-ltb n 10 small) (omega arith))
-    (λ large. simp (le-ltb n 10 large, length-append) (omega (arith, digits-short k (n / 10)))) (lt-or-le n 10)
+    let front = digits-short k (n / 10) in
+    cond-short (ltb n 10) _ _ (suc k) (omega arith) (rw length-append (omega arith))
 
 pub decimal_short : (n : ℕ) → length (decimal_of n) ≤ 20
 unfolding decimal_of

@@ -1,4 +1,4 @@
-// Text written into a buffer, piece by piece.
+// Text written into a buffer, piece by piece. Each function asks for the room that it needs, so none can fail, as a `write!` could.
 ghost use Rattle.std.specs.Prelude.{◌≡◌, [], ◌∷◌, ◌+◌, ◌≤◌, length, take};
 ghost use Rattle.text.specs.Writing.{Wrote, Room};
 

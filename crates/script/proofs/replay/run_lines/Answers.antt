@@ -16,7 +16,7 @@ loop-k-init c =
     let begins =
     going-begins c.args.script.now c.head_of-head.result c.args.begun c.new.result c.args.memory.now
     c.head_of-head.ensures c.requires.0 c.requires.1.0 c.new.ensures c.requires.1.1.0 in
-    (cc, (c.open-reader.ensures.place, begins))
+    (cc, (cc, begins))
 
 pub unreachable-requires : goal.unreachable-requires
 unreachable-requires c =
