@@ -1,5 +1,5 @@
 -- When a call is admitted, and what follows from it.
-use Rattle.std.specs.Prelude.{Option, None, Some, Result, Ok, Err, is_ok, position}
+use Rattle.std.specs.Prelude.{None, Some, Result, Ok, Err, is_ok, position}
 use mathlib.Core.Path.{◌≡◌, refl, ap, sym, ◌∙◌}
 use mathlib.Core.Bool.{Bool, true, false, not, cond, false≢true}
 use mathlib.Core.List.{List, [], ◌∷◌}
@@ -22,7 +22,7 @@ use Rattle.state.proofs.SlotLaws.{in_use}
 use Rattle.state.proofs.SoundLaws.{good-both}
 use Rattle.portals.specs.Refusals.{Condition, good_arguments, unless_refused}
 use Rattle.portals.specs.Admission.{admission_if, admission, Admits}
-use Rattle.portals.specs.CounterCalls.{bad_counter_argument, counter_tests, bad_poll_argument}
+use Rattle.portals.specs.CounterCalls.{counter_tests, bad_poll_argument}
 use Rattle.portals.specs.EarlyMessages.{bad_handle_argument, unlink_tests, Unlinks}
 use Rattle.portals.proofs.GuardLaws.{AllPassed, guard-cases}
 

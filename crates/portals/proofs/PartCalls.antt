@@ -3,17 +3,16 @@ use Rattle.std.specs.Prelude.{Option, None, Some, Result, Ok, Err, is_ok}
 use mathlib.Core.Path.{◌≡◌, refl, ap, sym, ◌∙◌, subst}
 use mathlib.Core.Bool.{Bool, true, false, cond, false≢true}
 use mathlib.Core.List.{List, [], ◌∷◌}
-use Prim.Native.Nat.{ℕ, ◌≤◌}
+use Prim.Native.Nat.{ℕ}
 use lib.ListN.{set}
 use Rattle.matching.specs.declared.refusals.Refusal.{Refusal}
 use Rattle.matching.specs.declared.refusals.BadArgument.{BadArgument}
 use Rattle.state.specs.Registers.{register_at}
-use Rattle.state.specs.View.{View, view_of, entries_of, queue_of, empty_target, empty_view, with_entries, with_queue, with_counters, is_linked_as}
-use Rattle.state.specs.Soundness.{sound_view, sound, seen}
+use Rattle.state.specs.View.{View, view_of, entries_of, queue_of, empty_target, empty_view, with_entries, with_queue, with_counters}
+use Rattle.state.specs.Soundness.{sound_view, sound}
 use Rattle.state.specs.Counters.{counter_at, increased}
-use Rattle.state.specs.Events.{without_oldest}
-use Rattle.state.specs.Lists.{remove_at, without_first}
-use Rattle.state.specs.Parts.{EntriesHold, QueueHolds, Taken, TargetFits}
+use Rattle.state.specs.Lists.{remove_at}
+use Rattle.state.specs.Parts.{EntriesHold, Taken, TargetFits}
 use Rattle.state.specs.declared.layout.Settings.{Settings}
 use Rattle.state.specs.declared.layout.Entries.{Entries}
 use Rattle.state.specs.declared.layout.Queue.{Queue}
@@ -23,10 +22,9 @@ use Rattle.state.specs.declared.layout.Counters.{Counters}
 use Rattle.state.specs.declared.layout.CounterChange.{CounterChange}
 use Rattle.state.specs.declared.layout.CounterTest.{CounterTest}
 use Rattle.state.specs.declared.layout.Target.{Target}
-use Rattle.state.proofs.SoundLaws.{Sound, facts-sound}
-use Rattle.portals.specs.Admission.{admission, Admits}
-use Rattle.portals.specs.Answers.{Answer, DONE, COUNTER, REGISTER, READY, NOT_READY, read_as, reached_answer, new_answer}
-use Rattle.portals.specs.Outcome.{Outcome, guarded}
+use Rattle.state.proofs.SoundLaws.{facts-sound}
+use Rattle.portals.specs.Admission.{Admits}
+use Rattle.portals.specs.Answers.{DONE, COUNTER, REGISTER, READY, NOT_READY, read_as, reached_answer, new_answer}
 use Rattle.portals.specs.EventRead.{event_taken, read_event}
 use Rattle.portals.specs.Refusals.{good_arguments}
 use Rattle.portals.specs.Making.{bad_setting, new}

@@ -8,7 +8,7 @@ use Rattle.matching.specs.Request.{arrival_of}
 use Rattle.matching.specs.declared.layout.Request.{Request}
 use Rattle.matching.specs.declared.request.Kind.{Kind}
 use Rattle.matching.specs.declared.request.Violation.TheVariants as Violation
-use Rattle.state.specs.View.{View, view_of}
+use Rattle.state.specs.View.{view_of}
 use Rattle.state.specs.Soundness.{counts_kept}
 use Rattle.state.specs.declared.layout.Target.{Target}
 use Rattle.requests.specs.Plan.{bytes_put, bytes_got}
@@ -16,7 +16,6 @@ use Rattle.requests.specs.Decision.{decide, if_delivered, request_state}
 use Rattle.requests.specs.Parts.{TargetAfter}
 use Rattle.requests.specs.declared.plan.Plan.{Plan}
 use Rattle.requests.specs.declared.decision.Decision.{Decision}
-use Rattle.portals.specs.Answers.{Answer}
 use Rattle.portals.specs.Request.{answer_by, request_tests, carried_out, put, get, ByRules}
 use Rattle.portals.specs.Promises.{Met}
 use Rattle.portals.proofs.RequestCalls.{put-sound, get-sound, decision-answers}

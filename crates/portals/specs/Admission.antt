@@ -1,5 +1,5 @@
 -- Whether a call is admitted: its first step. A call that is not leaves by its refusal.
-use Rattle.std.specs.Prelude.{◌≡◌, Bool, true, false, List, [], Result, Ok, Err}
+use Rattle.std.specs.Prelude.{◌≡◌, Bool, true, false, List, Result, Ok, Err}
 use Rattle.matching.specs.declared.refusals.Refusal.{Refusal}
 use Rattle.state.specs.Soundness.{is_sound}
 use Rattle.state.specs.View.{View, view_of}

@@ -4,7 +4,6 @@ use Rattle.matching.specs.Refusals.{first_bad}
 use Rattle.matching.specs.Entry.{bad_entry_argument}
 use Rattle.matching.specs.declared.layout.Entry.{Entry}
 use Rattle.matching.specs.declared.refusals.Refusal.{Refusal}
-use Rattle.matching.specs.declared.refusals.Refusal.TheVariants as Refusal
 use Rattle.matching.specs.declared.refusals.BadArgument.{BadArgument}
 use Rattle.state.specs.Lists.{any, remove_at, without_first}
 use Rattle.state.specs.Sizes.{SLOTS, LAST_HANDLE}

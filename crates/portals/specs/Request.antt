@@ -5,7 +5,6 @@ use Rattle.matching.specs.declared.layout.Request.{Request}
 use Rattle.matching.specs.declared.request.Kind.{Kind}
 use Rattle.matching.specs.declared.refusals.Refusal.{Refusal}
 use Rattle.matching.specs.declared.request.Violation.{Violation}
-use Rattle.matching.specs.declared.request.Violation.TheVariants as Violation
 use Rattle.state.specs.View.{View}
 use Rattle.state.specs.declared.layout.Target.{Target}
 use Rattle.requests.specs.Plan.{bytes_put, bytes_got}

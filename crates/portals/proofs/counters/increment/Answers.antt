@@ -10,4 +10,4 @@ returns-in_err-admit c =
 pub returns : goal.returns
 returns c =
     increment-met c.args.t.now c.set.new.self c.args.x (rw c.test_counter.ensures at c.in_ok-admit.ensures)
-    (rw (← c.at.ensures, ← c.increased_by-c.ensures) c.set.ensures)
+    (rw (c.increased_by-c.ensures, c.at.ensures) at c.set.ensures)

@@ -1,4 +1,4 @@
-use Rattle.std.proofs.Common.{sym, ◌∙◌}
+use Rattle.std.proofs.Common.{sym}
 use Rattle.portals.proofs.MetLaws.{handed-on}
 use Rattle.portals.proofs.PartCalls.{alone-bad, new-refused, new-made}
 use Rattle.portals.proofs.making.new.Goals as goal

@@ -1,4 +1,4 @@
-use Rattle.std.proofs.Common.{◌<◌, length, sym, ◌∙◌, refl, arith}
+use Rattle.std.proofs.Common.{sym, ◌∙◌, arith}
 use Rattle.portals.proofs.PollLaws.{reached-here, reached-later, reached-none}
 use Rattle.portals.proofs.poll.lowest_reached.Goals as goal
 

@@ -1,6 +1,5 @@
 -- The decision is the rules', and all else follows it.
 use Rattle.portals.proofs.MetLaws.{handed-on, refused-kept}
-use Rattle.portals.proofs.RequestCalls.{bytes-asked, parts-asked}
 use Rattle.portals.proofs.RequestMet.{put-guarded, put-met}
 use Rattle.portals.proofs.put_get.put.Goals as goal
 

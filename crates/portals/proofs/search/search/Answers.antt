@@ -2,7 +2,7 @@
 use mathlib.Core.Bool.{true}
 use Rattle.portals.specs.EarlyMessages.{search_tests}
 use Rattle.portals.proofs.MetLaws.{handed-on, refused-kept}
-use Rattle.portals.proofs.EarlyMet.{search-guarded, search-admits, walked-allows, search-room, search-met}
+use Rattle.portals.proofs.EarlyMet.{search-guarded, search-admits, walked-allows, search-met}
 use Rattle.portals.proofs.search.search.Goals as goal
 
 pub returns-in_err-admit : goal.returns-in_err-admit
