@@ -38,11 +38,10 @@ use Rattle.requests.specs.declared.plan.Plan.{Plan}
 use Rattle.requests.specs.declared.decision.Decision.{Decision}
 use Rattle.portals.specs.Refusals.{good_arguments, unless_refused}
 use Rattle.portals.specs.Answers.{Answer, PRIORITY, OVERFLOW, DROPPED, PERM, OP, refused}
-use Rattle.portals.specs.Outcome.{Outcome, refusal}
+use Rattle.portals.specs.Outcome.{refusal}
 use Rattle.portals.specs.Request.{answer_by, request_tests, carried_out, requested, put, get}
 use Rattle.portals.specs.Calls.{Call}
 use Rattle.portals.specs.Calls as calls
-use Rattle.portals.proofs.GuardLaws.{guard-cases, unless-map}
 use Rattle.conservation.specs.Steps.{called, elsewhere, count, event_in, says_linked, says_dropped, says_perm, says_op, says_priority, says_overflow}
 use Rattle.conservation.specs.Ledger.{counters_after, Ledger, nothing, delivery, chosen, delivery_to, request_effect, call_effect, linked_after, message_of, message_at, hear}
 use Rattle.conservation.specs.Runs.{line_elsewhere}
@@ -56,7 +55,7 @@ use Rattle.conservation.proofs.NumberLaws.{none_found}
 use Rattle.conservation.proofs.EntryLaws.{ChosenAs, priority, overflow, chosen-as, delivered-linked, home-delivered, home-new}
 use Rattle.conservation.proofs.EntryLaws as entries
 use Rattle.conservation.proofs.MessageLaws.{Messages, Homes, messages-parted, messages-arrive}
-use Rattle.conservation.proofs.StepLaws.{Kept, same_count, one_more, same-register, messages, same-messages, same_read, refused-kept}
+use Rattle.conservation.proofs.StepLaws.{Kept, same_count, one_more, same-register, messages, same-messages, same_read, guarded-kept, guarded-answers}
 use Rattle.conservation.proofs.EarlySteps.{issued-added}
 
 -- ## The bytes
@@ -109,14 +108,9 @@ module _ (rs : Registers) (heard : List Answer) (same : (k : ℕ) → register_a
 
 -- ## A request
 
--- what a request leaves, and that the memory keeps its length
-pub record Served (b : Ledger) (m : List ℕ) (c : Call) (a : Answer) (v' : View) (m' : List ℕ) : Type 0 where
-  pub kept : Kept b m c a v' m'
-  pub size : length m' ≡ length m
-
--- and its answer is the ledger's
-record ServedAs (expects : Answer) (b : Ledger) (m : List ℕ) (c : Call) (a : Answer) (v' : View) (m' : List ℕ) : Type 0 where
-  served : Served b m c a v' m'
+-- what a request leaves, and that its answer is the ledger's
+record Served (expects : Answer) (b : Ledger) (m : List ℕ) (c : Call) (a : Answer) (v' : View) (m' : List ℕ) : Type 0 where
+  kept : Kept b m c a v' m'
   right : a ≡ expects
 
 -- `left`: the memory after the call, by the lent buffer as it is left: of a put that is the memory
@@ -129,11 +123,11 @@ module _ (b : Ledger) (v : View) (m : List ℕ) (r : Related b v m) (c : Call) (
   abbrev a : Arrival
   a = arrival_of q kind n
 
-  abbrev ServesBy : Outcome View (List ℕ) → Type 0
-  ServesBy o = Served b m c o.answer o.state (left o.buffer)
+  abbrev Serves_as : Answer → View → List ℕ → Type 0
+  Serves_as answer v' m' = Served (expected_of_request b q a) b m c answer v' m'
 
   abbrev Serves : Decision → Type 0
-  Serves d = ServedAs (expected_of_request b q a) b m c (answer_by kind q.ack d) (request_state v d) (left (if_delivered moved lent d))
+  Serves d = Serves_as (answer_by kind q.ack d) (request_state v d) (left (if_delivered moved lent d))
 
   -- DROPPED, PERM and OP: only a register moves
   denied : (answer : Answer) (rs : Registers) → event_in answer ≡ []
@@ -141,20 +135,18 @@ module _ (b : Ledger) (v : View) (m : List ℕ) (r : Related b v m) (c : Call) (
       → request_effect b.linked q.portal a payload answer ≡ nothing
       → ((k : ℕ) → register_at rs k ≡ register_of (b.heard ++ (answer ∷ [])) k)
       → answer ≡ expected_of_request b q a
-      → ServedAs (expected_of_request b q a) b m c answer (with_registers v rs) (left lent)
+      → Serves_as answer (with_registers v rs) (left lent)
   denied answer rs event handle effect counted right = record {
-    served = record {
-      kept = record {
-        d = nothing;
-        effect = effects answer ∙ effect;
-        linked = r.linked;
-        messages = same-messages b v m r;
-        events = same_read b v m r answer v.queue b.events event r.events;
-        last = r.last ∙ sym (same_count says_linked b.heard answer handle);
-        registers = counted;
-        counters = r.counters;
-        memory = untouched;
-      };
+    kept = record {
+      d = nothing;
+      effect = effects answer ∙ effect;
+      linked = r.linked;
+      messages = same-messages b v m r;
+      events = same_read b v m r answer v.queue b.events event r.events;
+      last = r.last ∙ sym (same_count says_linked b.heard answer handle);
+      registers = counted;
+      counters = r.counters;
+      memory = untouched;
       size = ap length untouched;
     };
     right = right;
@@ -230,22 +222,22 @@ module _ (b : Ledger) (v : View) (m : List ℕ) (r : Related b v m) (c : Call) (
         → any (λ p. p answer) (says_dropped ∷ says_perm ∷ says_op ∷ []) ≡ false
         → (says_priority answer || says_overflow answer) ≡ true
         → answer ≡ expected_of_request b q a
-        → ServedAs (expected_of_request b q a) b m c answer (request_state v (Decision.Deliver (plan v.entries q.portal a k)))
+        → Serves_as answer (request_state v (Decision.Deliver (plan v.entries q.portal a k)))
         (left (moved (plan v.entries q.portal a k)))
     delivered-by answer event handle counts said right = record {
-      served = record {
-        kept = record {
-          d = delivery q.portal a payload x;
-          effect = effects answer ∙ ap (λ s. cond s (delivery_to q.portal a payload (chosen b.linked q.portal a)) nothing) said ∙ ap (delivery_to q.portal a payload) is;
-          linked = delivered-linked v.entries q.portal a payload k (sound-facts v r.is_sound).handles inside linked
-              ∙ ap (λ l. linked_after l (delivery q.portal a payload x)) r.linked;
-          messages = delivered-messages (takes_headers x.entry) refl;
-          events = issued-added b v m r answer (request_events (plan v.entries q.portal a k)) _ event refl;
-          last = r.last ∙ sym (same_count says_linked b.heard answer handle);
-          registers = λ n. r.registers n ∙ sym (same-register b.heard answer counts n);
-          counters = counted-here;
-          memory = written k;
-        };
+      kept = record {
+        d = delivery q.portal a payload x;
+        effect = effects answer
+            ∙ ap (λ s. cond s (delivery_to q.portal a payload (chosen b.linked q.portal a)) nothing) said
+            ∙ ap (delivery_to q.portal a payload) is;
+        linked = delivered-linked v.entries q.portal a payload k (sound-facts v r.is_sound).handles inside linked
+            ∙ ap (λ l. linked_after l (delivery q.portal a payload x)) r.linked;
+        messages = delivered-messages (takes_headers x.entry) refl;
+        events = issued-added b v m r answer (request_events (plan v.entries q.portal a k)) _ event refl;
+        last = r.last ∙ sym (same_count says_linked b.heard answer handle);
+        registers = λ n. r.registers n ∙ sym (same-register b.heard answer counts n);
+        counters = counted-here;
+        memory = written k;
         size = ap length (written k) ∙ written-length;
       };
       right = right;
@@ -258,7 +250,7 @@ module _ (b : Ledger) (v : View) (m : List ℕ) (r : Related b v m) (c : Call) (
         let o = offset_used x.entry x.local a in
         let ack = ack_given x.entry.options kind q.ack in
         let p = plan v.entries q.portal a k in
-        cond_cases (λ answer. ServedAs (expected_of_request b q a) b m c answer (request_state v (Decision.Deliver p)) (left (moved p)))
+        cond_cases (λ answer. Serves_as answer (request_state v (Decision.Deliver p)) (left (moved p)))
         (eqb x.entry.list 0) (PRIORITY n o ack) (OVERFLOW n o ack)
         (λ first. delivered-by (PRIORITY n o ack) refl refl refl refl (ap (λ y. cond y (PRIORITY n o ack) (OVERFLOW n o ack)) (sym first) ∙ right))
         (λ second. delivered-by (OVERFLOW n o ack) refl refl refl refl (ap (λ y. cond y (PRIORITY n o ack) (OVERFLOW n o ack)) (sym second) ∙ right))
@@ -289,26 +281,24 @@ module _ (b : Ledger) (v : View) (m : List ℕ) (r : Related b v m) (c : Call) (
       go _ _ e entries.nothing = dropped-by e
 
   -- behind the request's tests; the memory is the one beside the state
-  served-by : ServesBy (requested v (length m) q kind n moved lent)
-  served-by =
-      guard-cases ServesBy (refusal v lent) (request_tests v (length m) q n) _
-      (λ why. record { kept = subst (Kept b m c (refused why) v) (sym untouched) (refused-kept b v m r c why); size = ap length untouched })
-      (λ passed. decided-served.served)
+  kept-by : Kept b m c (requested v (length m) q kind n moved lent).answer (requested v (length m) q kind n moved lent).state
+      (left (requested v (length m) q kind n moved lent).buffer)
+  kept-by = guarded-kept b v m r c left lent (request_tests v (length m) q n) _ untouched decided-served.kept
 
   answered-by : (requested v (length m) q kind n moved lent).answer
       ≡ unless_refused refused (good_arguments (bad_request_argument q n) ∷ []) (expected_of_request b q a)
   answered-by =
-      unless-map (λ (o : Outcome View (List ℕ)). o.answer) (refusal v lent) (request_tests v (length m) q n) _
+      guarded-answers v lent (request_tests v (length m) q n) _
       ∙ (λ i. unless_refused refused
       (record { passed = eq-eqb (length m) v.size r.memory i; refusal = Refusal.BadMemory } ∷ good_arguments (bad_request_argument q n) ∷ [])
       (decided-served.right i))
 
 module _ (b : Ledger) (v : View) (m : List ℕ) (r : Related b v m) (q : Request) where
   module _ (payload : List ℕ) where
-    pub put-served : Served b m (calls.put q payload) (put v m q payload).answer (put v m q payload).state (put v m q payload).buffer
+    pub put-kept : Kept b m (calls.put q payload) (put v m q payload).answer (put v m q payload).state (put v m q payload).buffer
     unfolding put message
-    put-served =
-        served-by b v m r (calls.put q payload) q Kind.Put (length payload) payload (λ answer. refl) (bytes_put m payload) m (λ memory. memory) refl
+    put-kept =
+        kept-by b v m r (calls.put q payload) q Kind.Put (length payload) payload (λ answer. refl) (bytes_put m payload) m (λ memory. memory) refl
         (λ k. refl)
 
     pub put-answered : AnswerRight (length m) b (called (calls.put q payload) (put v m q payload).answer)
@@ -325,10 +315,10 @@ module _ (b : Ledger) (v : View) (m : List ℕ) (r : Related b v m) (q : Request
         let a = arrival_of q Kind.Get (length reply) in
         sym (ap (overwritten m (place x.entry x.local a)) (take-nil (accepted x.entry x.local a)) ∙ written_none m (place x.entry x.local a))
 
-    pub get-served : Served b m (calls.get q reply) (get v m q reply).answer (get v m q reply).state m
+    pub get-kept : Kept b m (calls.get q reply) (get v m q reply).answer (get v m q reply).state m
     unfolding get
-    get-served =
-        served-by b v m r (calls.get q reply) q Kind.Get (length reply) [] (λ answer. refl) (bytes_got m reply) reply (λ left. m) refl unwritten
+    get-kept =
+        kept-by b v m r (calls.get q reply) q Kind.Get (length reply) [] (λ answer. refl) (bytes_got m reply) reply (λ left. m) refl unwritten
 
     pub get-answered : AnswerRight (length m) b (called (calls.get q reply) (get v m q reply).answer)
     unfolding get
