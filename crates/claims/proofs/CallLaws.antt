@@ -1,6 +1,6 @@
 -- The laws of all calls: soundness is kept, the size is fixed, a refusal changes nothing, handles count up.
-use mathlib.Core.Path.{◌≡◌, refl, sym, ◌∙◌}
-use mathlib.Core.Bool.{Bool, true, false, true≢false, false≢true}
+use mathlib.Core.Path.{◌≡◌, refl}
+use mathlib.Core.Bool.{Bool, true, false}
 use mathlib.Core.List.{List, []}
 use Prim.Native.Nat.{ℕ, ◌<◌}
 use borrow.Author.Tests.{ltb-true}
@@ -8,6 +8,7 @@ use lib.Dec.{ltb, eqb}
 use lib.ListN.{length}
 use Rattle.matching.specs.declared.layout.Entry.{Entry}
 use Rattle.matching.specs.declared.layout.Request.{Request}
+use Rattle.matching.specs.Request.{arrival_of}
 use Rattle.matching.specs.declared.request.Kind.{Kind}
 use Rattle.state.specs.Sizes.{SLOTS, LAST_HANDLE}
 use Rattle.state.specs.View.{View}
@@ -15,7 +16,7 @@ use Rattle.state.specs.declared.layout.Header.{Header}
 use Rattle.state.specs.declared.layout.CounterChange.{CounterChange}
 use Rattle.state.proofs.ListLaws.{both, cond_cases}
 use Rattle.state.proofs.SoundLaws.{Sound, sound-facts, facts-sound}
-use Rattle.requests.specs.Decision.{request_state}
+use Rattle.requests.specs.Decision.{decide, request_state}
 use Rattle.requests.specs.declared.plan.Plan.{Plan}
 use Rattle.requests.specs.declared.decision.Decision.{Decision}
 use Rattle.requests.proofs.RequestKept.{none-beyond}
@@ -28,12 +29,12 @@ use Rattle.portals.specs.Outcome.{Outcome, refusal, guarded}
 use Rattle.portals.specs.Making.{new}
 use Rattle.portals.specs.EventRead.{read_event}
 use Rattle.portals.specs.CounterCalls.{counter_tests, set_counter, increment}
-use Rattle.portals.specs.Request.{carried_out, decided, put, get}
+use Rattle.portals.specs.Request.{request_tests, requested, put, get}
 use Rattle.portals.specs.EarlyMessages.{append_by, taken_by, append_tests, append, unlink_tests, unlink, search_tests, search}
 use Rattle.portals.specs.Calls.{Call, state_after, answer_to}
 use Rattle.portals.specs.Calls as calls
 use Rattle.portals.proofs.GuardLaws.{guard-cases}
-use Rattle.portals.proofs.RequestCalls.{delivery-answers, put-sound, get-sound}
+use Rattle.portals.proofs.RequestCalls.{decision-answers, put-sound, get-sound}
 use Rattle.portals.proofs.EarlyKept.{append-sound, unlink-sound, search-sound}
 use Rattle.portals.proofs.PartsKept.{new-sound, set-sound, increment-sound, read-event-sound, oldest-answers}
 use Rattle.claims.specs.Laws.{CallLaws, is_append, Handles, linked, taken, refused}
@@ -51,8 +52,8 @@ done-orderly : {B : Type 0} (v : View) (b : B) (does : Outcome View B)
     → does.state.size ≡ v.size
     → Orderly v b does
 done-orderly v b does answers size = record {
-  state = λ e. absurd (false≢true (sym answers ∙ e));
-  buffer = λ e. absurd (false≢true (sym answers ∙ e));
+  state = λ e. cc;
+  buffer = λ e. cc;
   fixed = size;
 }
 
@@ -90,22 +91,25 @@ module _ (v : View) where
   unfolding search handled
   search-orderly e = guarded-orderly v tt (search_tests v e) _ refl refl
 
-  -- a request that is refused leaves all as it was; every other decision gives an answer that is no refusal
-  carried-orderly : (q : Request) (kind : Kind) (moved : Plan → List ℕ) (lent : List ℕ) (d : Decision)
-      → Orderly v lent (carried_out v q kind moved lent d)
-  carried-orderly q kind moved lent (Decision.Refuse r) = record { state = λ e. refl; buffer = λ e. refl; fixed = refl }
-  carried-orderly q kind moved lent Decision.Drop = done-orderly v lent _ refl refl
-  carried-orderly q kind moved lent Decision.DenyPermission = done-orderly v lent _ refl refl
-  carried-orderly q kind moved lent Decision.DenyOperation = done-orderly v lent _ refl refl
-  carried-orderly q kind moved lent (Decision.Deliver p) = done-orderly v lent _ (delivery-answers kind q.ack p) refl
+  -- whatever is decided of a request, it keeps the size and the last handle
+  decided-keeps : (d : Decision) → ((request_state v d).size ≡ v.size) × ((request_state v d).last ≡ v.last)
+  decided-keeps Decision.Drop = (refl, refl)
+  decided-keeps (Decision.Deny violation) = (refl, refl)
+  decided-keeps (Decision.Deliver p) = (refl, refl)
+
+  requested-orderly : (size : ℕ) (q : Request) (kind : Kind) (n : ℕ) (moved : Plan → List ℕ) (lent : List ℕ)
+      → Orderly v lent (requested v size q kind n moved lent)
+  requested-orderly size q kind n moved lent =
+      let d = decide v.entries v.headers q.portal (arrival_of q kind n) in
+      guarded-orderly v lent (request_tests v size q n) _ (decision-answers kind q.ack d) (decided-keeps d).0
 
   put-orderly : (memory : List ℕ) (q : Request) (payload : List ℕ) → Orderly v memory (put v memory q payload)
   unfolding put
-  put-orderly memory q payload = carried-orderly q Kind.Put _ memory (decided v (length memory) q Kind.Put (length payload))
+  put-orderly memory q payload = requested-orderly (length memory) q Kind.Put (length payload) _ memory
 
   get-orderly : (memory : List ℕ) (q : Request) (reply : List ℕ) → Orderly v reply (get v memory q reply)
   unfolding get
-  get-orderly memory q reply = carried-orderly q Kind.Get _ reply (decided v (length memory) q Kind.Get (length reply))
+  get-orderly memory q reply = requested-orderly (length memory) q Kind.Get (length reply) _ reply
 
   read-event-orderly : Orderly v tt (read_event v)
   unfolding read_event
@@ -174,23 +178,19 @@ same-last : {B : Type 0} (v : View) (b : B) (tests : List Condition) (does : Out
 same-last v b tests does h =
     guard-cases (λ (o : Outcome View _). o.state.last ≡ v.last) (refusal v b) tests does (λ r. refl) (λ passed. h)
 
--- a request keeps it, whatever is decided
-request-last : (v : View) (d : Decision) → (request_state v d).last ≡ v.last
-request-last v (Decision.Refuse r) = refl
-request-last v Decision.Drop = refl
-request-last v Decision.DenyPermission = refl
-request-last v Decision.DenyOperation = refl
-request-last v (Decision.Deliver p) = refl
-
 last-kept : (v : View) (memory : List ℕ) (c : Call) → is_append c ≡ false → (state_after v memory c).last ≡ v.last
 unfolding unlink search handled put get read_event set_counter increment
-last-kept v memory (calls.append e) h = absurd (true≢false h)
+last-kept v memory (calls.append e) h = cc
 last-kept v memory (calls.unlink handle) h = same-last v tt (unlink_tests v handle) _ refl
 last-kept v memory (calls.search e) h =
     same-last v tt (search_tests v e) _
     (cond_cases (λ handling. last_after v.last handling ≡ v.last) (eqb e.list 0) Handling.Look Handling.Delete (λ look. refl) (λ delete. refl))
-last-kept v memory (calls.put q payload) h = request-last v (decided v (length memory) q Kind.Put (length payload))
-last-kept v memory (calls.get q reply) h = request-last v (decided v (length memory) q Kind.Get (length reply))
+last-kept v memory (calls.put q payload) h =
+    same-last v memory (request_tests v (length memory) q (length payload)) _
+    (decided-keeps v (decide v.entries v.headers q.portal (arrival_of q Kind.Put (length payload)))).1
+last-kept v memory (calls.get q reply) h =
+    same-last v reply (request_tests v (length memory) q (length reply)) _
+    (decided-keeps v (decide v.entries v.headers q.portal (arrival_of q Kind.Get (length reply)))).1
 last-kept v memory calls.read_event h = refl
 last-kept v memory (calls.set_counter x) h = same-last v tt (counter_tests x.counter) _ refl
 last-kept v memory (calls.increment x) h = same-last v tt (counter_tests x.counter) _ refl
@@ -201,8 +201,8 @@ last-kept v memory (calls.poll ks tests) h = refl
 
 -- ## All of them
 
-pub call-laws : CallLaws
-call-laws = record {
+pub call_laws : CallLaws
+call_laws = record {
   sound = λ v memory c h. facts-sound (state_after v memory c) ((call-lawful v memory c).sound (sound-facts v h));
   made = λ c. facts-sound (new c).state (new-sound c);
   fixed = λ v memory c. (call-lawful v memory c).fixed;

@@ -21,7 +21,7 @@ use Rattle.requests.specs.Decision.{decide}
 use Rattle.early.specs.Walk.{walk_for}
 use Rattle.portals.specs.EventRead.{read_event}
 use Rattle.portals.specs.CounterCalls.{set_counter, increment, read_counter}
-use Rattle.portals.specs.Request.{decided, put}
+use Rattle.portals.specs.Request.{put}
 use Rattle.portals.specs.EarlyMessages.{append}
 use Rattle.claims.specs.BenchCases.{AllHold, done, ◌then◌, table}
 
@@ -34,9 +34,9 @@ unfolding unlinks
 never-unlinks e local a free once =
     rw (once, le-ltb (e.length - local_after e local a) e.minfree (omega arith)) (and-false (is_set e.options MANAGE_LOCAL))
 
-pub cases-hold : AllHold table
-unfolding bad_entry_argument bad_request_argument offset_used available bits_agree allows_length matches verdict_on accepted place local_after unlinks ack_given takes_headers fits disabled amount sound_view post read_event counted set_counter increment read_counter choose decide message decided put walk_for append
-cases-hold =
+pub cases_hold : AllHold table
+unfolding bad_entry_argument bad_request_argument offset_used available bits_agree allows_length matches verdict_on accepted place local_after unlinks ack_given takes_headers fits disabled amount sound_view post read_event counted set_counter increment read_counter choose decide message put walk_for append
+cases_hold =
     refl
     then refl
     then refl

@@ -22,7 +22,7 @@ module _ {A : Type 0} (P : A → Type 0) where
   all_set (y ∷ l) (suc k) x h p = (h.0, all_set l k x h.1 p)
 
   pub all-at : (l : List A) (k : ℕ) (d : A) → k < length l → All P l → P (get_or l k d)
-  all-at [] k d i h = let z : ⊥ = omega arith in absurd z
+  all-at [] k d i h = absurd (omega arith)
   all-at (y ∷ l) zero d i h = h.0
   all-at (y ∷ l) (suc k) d i h = all-at l k d (omega arith) h.1
 

@@ -15,19 +15,19 @@ use Rattle.state.specs.declared.layout.CounterChange.{CounterChange}
 use Rattle.state.specs.declared.layout.CounterTest.{CounterTest}
 use Rattle.state.proofs.ListLaws.{cond_cases}
 use Rattle.portals.specs.Refusals.{Condition, good_arguments, unless_refused}
-use Rattle.portals.specs.Answers.{Answer, DONE, COUNTER, REGISTER, READY, NOT_READY, refused}
-use Rattle.portals.specs.Outcome.{Outcome, refusal, guarded, guarded_read}
+use Rattle.portals.specs.Answers.{Answer, DONE, COUNTER, REGISTER, READY, NOT_READY, refused, reached_answer}
+use Rattle.portals.specs.Outcome.{guarded, guarded_read}
 use Rattle.portals.specs.EventRead.{oldest_of, read_event}
-use Rattle.portals.specs.CounterCalls.{counter_tests, counter_done, is_ready, bad_poll_argument, reached_from, reached_answer, bad_register_argument, set_counter, increment, read_counter, read_register, ready, poll}
+use Rattle.portals.specs.CounterCalls.{counter_tests, counter_done, is_ready, bad_poll_argument, reached_from, bad_register_argument, set_counter, increment, read_counter, read_register, ready, poll}
 use Rattle.portals.specs.Calls.{Call}
 use Rattle.portals.specs.Calls as calls
-use Rattle.portals.proofs.GuardLaws.{guard-cases, unless-map}
+use Rattle.portals.proofs.GuardLaws.{guard-cases}
 use Rattle.conservation.specs.Steps.{called, wrote, says_linked}
 use Rattle.conservation.specs.Ledger.{Ledger, nothing, change, call_effect}
 use Rattle.conservation.specs.Answering.{AnswerRight}
 use Rattle.conservation.proofs.Relations.{SameEvents, Related, Follows}
 use Rattle.conservation.proofs.EventLaws.{unread, read_one, reads_more, overflow-shown}
-use Rattle.conservation.proofs.StepLaws.{Unregistered, Plain, Kept, same_count, same-register, same-messages, same_read, plain-kept, refused-kept}
+use Rattle.conservation.proofs.StepLaws.{Unregistered, Plain, Kept, same_count, same-register, same-messages, same_read, plain-kept, refused-kept, guarded-kept, guarded-answers}
 
 module _ (b : Ledger) (v : View) (m : List ℕ) (r : Related b v m) where
   -- a call that only reads: refused, or else a plain answer
@@ -72,10 +72,8 @@ module _ (b : Ledger) (v : View) (m : List ℕ) (r : Related b v m) where
       → Kept b m c (guarded v tt (counter_tests k) (counter_done v k (f (counter_at v.counters k)))).answer
       (guarded v tt (counter_tests k) (counter_done v k (f (counter_at v.counters k)))).state m
   counter-kept c k f d =
-      guard-cases (λ (o : Outcome View Unit). Kept b m c o.answer o.state m) (refusal v tt) (counter_tests k)
-      (counter_done v k (f (counter_at v.counters k)))
-      (λ why. refused-kept b v m r c why)
-      (λ passed. record {
+      guarded-kept b v m r c (λ _. m) tt (counter_tests k) (counter_done v k (f (counter_at v.counters k))) refl
+      (record {
         d = change k f;
         effect = d;
         linked = r.linked;
@@ -85,6 +83,7 @@ module _ (b : Ledger) (v : View) (m : List ℕ) (r : Related b v m) where
         registers = λ n. r.registers n ∙ sym (same-register b.heard DONE refl n);
         counters = ap (λ (cs : List Counter). set cs k (f (counter_at cs k))) r.counters;
         memory = refl;
+        size = refl;
       })
 
   pub set-counter-kept : (x : CounterChange) → Kept b m (calls.set_counter x) (set_counter v x).answer (set_counter v x).state m
@@ -116,6 +115,7 @@ module _ (b : Ledger) (v : View) (m : List ℕ) (r : Related b v m) where
     registers = λ k. r.registers k ∙ sym (same-register b.heard _ (oldest-counts v.queue.events) k);
     counters = r.counters;
     memory = refl;
+    size = refl;
   }
 
   -- ## The answers
@@ -145,11 +145,11 @@ module _ (b : Ledger) (v : View) (m : List ℕ) (r : Related b v m) where
 
   pub set-counter-answered : (x : CounterChange) → Answered (calls.set_counter x) (set_counter v x).answer
   unfolding set_counter
-  set-counter-answered x = unless-map (λ (o : Outcome View Unit). o.answer) (refusal v tt) (counter_tests x.counter) _
+  set-counter-answered x = guarded-answers v tt (counter_tests x.counter) _
 
   pub increment-answered : (x : CounterChange) → Answered (calls.increment x) (increment v x).answer
   unfolding increment
-  increment-answered x = unless-map (λ (o : Outcome View Unit). o.answer) (refusal v tt) (counter_tests x.counter) _
+  increment-answered x = guarded-answers v tt (counter_tests x.counter) _
 
   pub read-event-answered : Answered calls.read_event (read_event v).answer
   unfolding read_event

@@ -31,10 +31,9 @@ use Rattle.early.specs.Handling.{new_entry, handled}
 use Rattle.early.specs.declared.handling.Handling.{Handling}
 use Rattle.portals.specs.Refusals.{good_arguments, unless_refused}
 use Rattle.portals.specs.Answers.{Answer, LINKED, TAKEN, DONE, SEARCHED, refused}
-use Rattle.portals.specs.Outcome.{Outcome, refusal}
+use Rattle.portals.specs.Outcome.{Outcome}
 use Rattle.portals.specs.EarlyMessages.{taken_by, append_by, appended, append_tests, append, unlink_tests, unlinked, unlink, searched, search_tests, search}
 use Rattle.portals.specs.Calls as calls
-use Rattle.portals.proofs.GuardLaws.{guard-cases, unless-map}
 use Rattle.conservation.specs.Steps.{called, count, event_in, events_read, says_linked}
 use Rattle.conservation.specs.Ledger.{overflow_counted, Ledger, link, taken, remove, look, delete, without, header_at, message_at, search_walk, append_walk, walk_events, add_all, headers_at}
 use Rattle.conservation.specs.Answering.{slots_taken, expected_of_append, AnswerRight}
@@ -45,7 +44,7 @@ use Rattle.conservation.proofs.SlotLaws.{slots-taken}
 use Rattle.conservation.proofs.EntryLaws.{kept-linked, linked-last, unlinked-linked, home-part, home-last}
 use Rattle.conservation.proofs.EventLaws.{added-all, overflow-events, no-match-events, search-events}
 use Rattle.conservation.proofs.MessageLaws.{Messages, Homes, messages-parted, handles-given}
-use Rattle.conservation.proofs.StepLaws.{Kept, same_count, one_more, same-register, messages, same-messages, same_read, refused-kept}
+use Rattle.conservation.proofs.StepLaws.{Kept, same_count, one_more, same-register, messages, same-messages, same_read, guarded-kept, guarded-answers}
 
 part-map : {A B : Type 0} (f : A → B) {l all : List A} → Part l all → Part (map f l) (map f all)
 part-map f nothing = nothing
@@ -79,15 +78,13 @@ module _ (b : Ledger) (v : View) (m : List ℕ) (r : Related b v m) where
         registers = λ k. r.registers k ∙ sym (same-register b.heard DONE refl k);
         counters = r.counters;
         memory = refl;
+        size = refl;
       }
 
   pub unlink-kept : (handle : ℕ) → Kept b m (calls.unlink handle) (unlink v handle).answer (unlink v handle).state m
   unfolding unlink
   unlink-kept handle =
-      guard-cases (λ (o : Outcome View Unit). Kept b m (calls.unlink handle) o.answer o.state m) (refusal v tt) (unlink_tests v handle)
-      (unlinked v handle)
-      (λ why. refused-kept b v m r (calls.unlink handle) why)
-      (λ passed. unlinked-kept handle)
+      guarded-kept b v m r (calls.unlink handle) (λ _. m) tt (unlink_tests v handle) (unlinked v handle) refl (unlinked-kept handle)
 
   -- the ledger's linked entries have a handle where the target's have it
   linked-as : (handle : ℕ) (entries : List HeldEntry) → any (is_linked_as handle) entries ≡ any (has_handle handle) (select is_linked entries)
@@ -102,7 +99,7 @@ module _ (b : Ledger) (v : View) (m : List ℕ) (r : Related b v m) where
   pub unlink-answered : (handle : ℕ) → AnswerRight (length m) b (called (calls.unlink handle) (unlink v handle).answer)
   unfolding unlink
   unlink-answered handle =
-      unless-map (λ (o : Outcome View Unit). o.answer) (refusal v tt) (unlink_tests v handle) (unlinked v handle)
+      guarded-answers v tt (unlink_tests v handle) (unlinked v handle)
       ∙ (λ i. unless_refused refused
       (good_arguments (first_bad (record { passed = (linked-as handle v.entries ∙ ap (any (has_handle handle)) r.linked) i; argument = BadArgument.Handle } ∷ []))
       ∷ record { passed = not (any (names handle) (r.headers i)); refusal = Refusal.InUse }
@@ -207,6 +204,7 @@ module _ (b : Ledger) (v : View) (m : List ℕ) (r : Related b v m) where
           registers = λ k. r.registers k ∙ sym (same-register b.heard TAKEN refl k);
           counters = counted-found e;
           memory = refl;
+          size = refl;
         }
     append-by false f =
         let w = append_walk b e in
@@ -222,6 +220,7 @@ module _ (b : Ledger) (v : View) (m : List ℕ) (r : Related b v m) where
           registers = λ k. r.registers k ∙ sym (same-register b.heard (LINKED h) refl k);
           counters = counted-found e;
           memory = refl;
+          size = refl;
         }
 
     -- USE_ONCE with a fit, or else the next handle
@@ -238,7 +237,7 @@ module _ (b : Ledger) (v : View) (m : List ℕ) (r : Related b v m) where
     pub append-answered : AnswerRight (length m) b (called (calls.append e) (append v e).answer)
     unfolding append
     append-answered =
-        unless-map (λ (o : Outcome View Unit). o.answer) (refusal v tt) (append_tests v e) (appended v e (taken_by e v.headers))
+        guarded-answers v tt (append_tests v e) (appended v e (taken_by e v.headers))
         ∙ (λ i. unless_refused refused
         (good_arguments (bad_entry_argument e (sym r.memory i))
         ∷ record { passed = ltb (slots i) SLOTS && ltb (r.last i) LAST_HANDLE; refusal = Refusal.NoSpace }
@@ -252,9 +251,8 @@ module _ (b : Ledger) (v : View) (m : List ℕ) (r : Related b v m) where
     pub append-kept : AppendKept (append v e)
     unfolding append
     append-kept =
-        guard-cases AppendKept (refusal v tt) (append_tests v e) _
-        (λ why. refused-kept b v m r (calls.append e) why)
-        (λ passed. subst (λ w. AppendKept (append_by (found_once e w) v e w)) (sym (append-walk e)) (append-by (found_once e (shown (append_walk b e))) refl))
+        guarded-kept b v m r (calls.append e) (λ _. m) tt (append_tests v e) _ refl
+        (subst (λ w. AppendKept (append_by (found_once e w) v e w)) (sym (append-walk e)) (append-by (found_once e (shown (append_walk b e))) refl))
 
   -- ## Search
 
@@ -282,6 +280,7 @@ module _ (b : Ledger) (v : View) (m : List ℕ) (r : Related b v m) where
           registers = λ k. r.registers k ∙ sym (same-register b.heard a refl k);
           counters = r.counters;
           memory = refl;
+          size = refl;
         }
     search-by false f =
         let w = search_walk b e in
@@ -297,18 +296,18 @@ module _ (b : Ledger) (v : View) (m : List ℕ) (r : Related b v m) where
           registers = λ k. r.registers k ∙ sym (same-register b.heard a refl k);
           counters = r.counters;
           memory = refl;
+          size = refl;
         }
 
     pub search-answered : AnswerRight (length m) b (called (calls.search e) (search v e).answer)
     unfolding search
     search-answered =
-        unless-map (λ (o : Outcome View Unit). o.answer) (refusal v tt) (search_tests v e) (searched v e (early.walk_for e v.headers))
+        guarded-answers v tt (search_tests v e) (searched v e (early.walk_for e v.headers))
         ∙ (λ i. unless_refused refused (good_arguments (bad_entry_argument e (sym r.memory i)) ∷ [])
         (SEARCHED ((ap (λ (w : Walk Header). length w.found) (search-walk e) ∙ found-count) i)))
 
     pub search-kept : SearchKept (search v e)
     unfolding search
     search-kept =
-        guard-cases SearchKept (refusal v tt) (search_tests v e) _
-        (λ why. refused-kept b v m r (calls.search e) why)
-        (λ passed. subst (λ w. SearchKept (searched v e w)) (sym (search-walk e)) (search-by (eqb e.list 0) refl))
+        guarded-kept b v m r (calls.search e) (λ _. m) tt (search_tests v e) _ refl
+        (subst (λ w. SearchKept (searched v e w)) (sym (search-walk e)) (search-by (eqb e.list 0) refl))

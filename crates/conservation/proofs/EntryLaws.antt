@@ -63,7 +63,7 @@ module _ {A : Type 0} (p q : A → Bool) (implies : (x : A) → p x ≡ true →
       by : (passes chosen : Bool) → p x ≡ passes → q x ≡ chosen → select p (select q l) ≡ select p l
           → select p (select q (x ∷ l)) ≡ select p (x ∷ l)
       by true true e f rest = rw (f, e) (ap (λ (r : List A). x ∷ r) rest)
-      by true false e f rest = absurd (true≢false (sym (implies x e) ∙ f))
+      by true false e f rest = let i = implies x e in cc
       by false true e f rest = rw (f, e) rest
       by false false e f rest = rw (f, e) rest
 
@@ -307,7 +307,7 @@ home-new entries portal a payload k d inside =
 -- a header that an entry holds has a handle that was given
 held-given : (size last : ℕ) (entries : List HeldEntry) (h : Header) → every (entry_sound size last) entries ≡ true → any (holds h) entries ≡ true
     → h.handle ≤ last
-held-given size last [] h s e = absurd (true≢false (sym e))
+held-given size last [] h s e = cc
 held-given size last (x ∷ l) h s e =
     let t = both (entry_sound size last x) (every (entry_sound size last) l) s in
     by (holds h x) refl (entry-facts size last x t.0).most (held-given size last l h t.1)

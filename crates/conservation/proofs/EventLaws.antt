@@ -1,6 +1,6 @@
 -- The events that the ledger logs are those that the rules post.
 use mathlib.Core.Path.{◌≡◌, refl, ap, sym, ◌∙◌}
-use mathlib.Core.Bool.{Bool, true, false, ◌&&◌, ◌||◌, not, cond, false≢true, and-false, and-true}
+use mathlib.Core.Bool.{Bool, true, false, ◌&&◌, ◌||◌, not, cond, and-false, and-true}
 use mathlib.Core.List.{List, [], ◌∷◌, ◌++◌, map, map-map, map-append, append-nil, append_assoc}
 use Prim.Native.Nat.{ℕ, ◌+◌}
 use native.Mathlib.Omega.{arith}
@@ -161,7 +161,7 @@ module _ (x : Message) (others : List Header) where
       → All (λ (y : HeldEntry). y.handle ≡ x.entry.handle → y.entry ≡ x.entry.entry) l
       → any (holds x.header) l ≡ true
       → map auto_free_event (select (freed_by x.header others) l) ≡ auto_free_events (select is_linked l) x others
-  freed [] d named same e = absurd (false≢true e)
+  freed [] d named same e = cc
   freed (y ∷ l) d named same e = by (has_handle handle y) refl (freed l d'.1 named same.1)
     where
       d' : (not (any (has_handle y.handle) l) ≡ true) × (distinct l ≡ true)
@@ -280,7 +280,7 @@ overflow-shown b (link e handle) =
     let w = append_walk b e in
     shown-both (walk_events b e handle w) (link_event e handle ∷ []) (hand-outs-shown b e handle w.found w.left) refl ∙ append-nil _
 overflow-shown b (taken e) = let w = append_walk b e in hand-outs-shown b e 0 w.found w.left
-overflow-shown b (remove handle) = refl
+overflow-shown b (remove _) = refl
 overflow-shown b (look e) =
     let found = (search_walk b e).found in
     shown-both (map (λ n. search_event e (header_at b.arrivals n)) found) (no_match_events e found) (search-hidden b e found) (closing-hidden e found)

@@ -2,12 +2,12 @@
 use mathlib.Core.Path.{◌≡◌, refl, ap, sym, ◌∙◌, subst}
 use mathlib.Core.Bool.{Bool, true, false, cond}
 use mathlib.Core.List.{List, [], ◌∷◌, ◌++◌, map}
+use Rattle.std.specs.Prelude.{Result}
 use Prim.Native.Nat.{ℕ, zero-le}
-use native.Mathlib.Omega.{arith}
 use borrow.Author.Tests.{le-ltb}
 use lib.Dec.{eqb}
 use lib.ListN.{length}
-use Rattle.matching.specs.declared.refusals.Refusal.TheVariants as Refusal
+use Rattle.matching.specs.declared.refusals.Refusal.{Refusal}
 use Rattle.state.specs.Lists.{every, select}
 use Rattle.state.specs.View.{View, view_of, is_linked, empty_view}
 use Rattle.state.specs.Soundness.{Seen, sound, seen, seen_if, is_sound, sound_view, header_sound}
@@ -18,15 +18,15 @@ use Rattle.state.proofs.ListLaws.{both}
 use Rattle.state.proofs.SoundLaws.{sound-facts}
 use Rattle.portals.specs.Refusals.{good_arguments}
 use Rattle.portals.specs.Answers.{Answer, MADE, refused}
-use Rattle.portals.specs.Outcome.{Outcome, unless_unsound, read_unless_unsound}
+use Rattle.portals.specs.Outcome.{Outcome, refusal, unless_unsound, read_unless_unsound}
 use Rattle.portals.specs.Making as making
 use Rattle.portals.specs.Request.{put, get}
 use Rattle.portals.specs.Promises.{Met, ReadMet, NewMet}
 use Rattle.portals.specs.Calls.{Call, state_after, answer_to}
 use Rattle.portals.specs.Calls as calls
-use Rattle.portals.specs.declared.answers.NewDone.{NewDone}
+use Rattle.portals.specs.declared.answers.Done.{Done}
 use Rattle.portals.proofs.GuardLaws.{guard-cases}
-use Rattle.claims.proofs.CallLaws.{call-laws}
+use Rattle.claims.proofs.CallLaws.{call_laws}
 use Rattle.conservation.specs.Steps.{called, events_read}
 use Rattle.conservation.specs.Ledger.{Ledger, empty, hear, message_at, header_at}
 use Rattle.conservation.specs.Runs.{Line, line, line_elsewhere, Stepped, Ran}
@@ -38,7 +38,6 @@ use Rattle.conservation.proofs.Relations.{Home, Follows, At, Reaches}
 use Rattle.conservation.proofs.StepLaws.{Kept, kept-follows}
 use Rattle.conservation.proofs.CounterSteps as counters
 use Rattle.conservation.proofs.EarlySteps as early
-use Rattle.conservation.proofs.RequestSteps.{Refused}
 use Rattle.conservation.proofs.RequestSteps as requests
 use Rattle.conservation.proofs.SlotLaws.{waits-in-own}
 use Rattle.conservation.proofs.StayLaws.{began, bytes-stand}
@@ -49,16 +48,17 @@ module _ (b : Ledger) (t : Target) (m : List ℕ) (h : At b t m) where
   abbrev v : View
   v = h.view
 
-  -- a call that may change the state, and leaves this memory
-  by_call : {B : Type 0} (c : Call) (call : View → Outcome View B) (lent left : B) (answer : Answer) (t' : Target) → Met call t lent answer t' left
-      → Follows b m (line m c (call v).answer) (call v).state m
-      → Reaches b m (line m c answer) t' m
-  by_call {B} c call lent left answer t' p f =
+  -- a call that may change the state. `after`: the memory after it, by the lent buffer as it is left
+  by_call : {B : Type 0} (c : Call) (call : View → Outcome View B) (after : B → List ℕ) (lent left : B) (answer : Answer) (t' : Target)
+      → Met call t lent answer t' left
+      → Follows b m (line m c (call v).answer) (call v).state (after (call v).buffer)
+      → Reaches b m (line m c answer) t' (after left)
+  by_call {B} c call after lent left answer t' p f =
       let e = p.outcome ∙ ap (λ (s : Seen). unless_unsound call s lent) h.is in
       record {
         view = (call v).state;
         is = ap (λ (o : Outcome Seen B). o.state) e;
-        follows = subst (λ a. Follows b m (line m c a) (call v).state m) (sym (ap (λ (o : Outcome Seen B). o.answer) e)) f;
+        follows = subst (λ (o : Outcome Seen B). Follows b m (line m c o.answer) (call v).state (after o.buffer)) (sym e) f;
       }
 
   -- a call that only reads
@@ -72,67 +72,55 @@ module _ (b : Ledger) (t : Target) (m : List ℕ) (h : At b t m) where
   -- what is kept follows, where the memory stays
   stays : (c : Call) → AnswerRight (length m) b (called c (answer_to v m c)) → Kept b m c (answer_to v m c) (state_after v m c) m
       → Follows b m (line m c (answer_to v m c)) (state_after v m c) m
-  stays c answer k = kept-follows b v m h.related c m refl answer k
-
-  -- a put writes the memory
-  by-put : (c : Call) (call : View → Outcome View (List ℕ)) (m' : List ℕ) (answer : Answer) (t' : Target) → Met call t m answer t' m'
-      → Follows b m (line m c (call v).answer) (call v).state (call v).buffer
-      → Reaches b m (line m c answer) t' m'
-  by-put c call m' answer t' p f =
-      let e = p.outcome ∙ ap (λ (s : Seen). unless_unsound call s m) h.is in
-      record {
-        view = (call v).state;
-        is = ap (λ (o : Outcome Seen (List ℕ)). o.state) e;
-        follows = subst (λ (o : Outcome Seen (List ℕ)). Follows b m (line m c o.answer) (call v).state o.buffer) (sym e) f;
-      }
+  stays c answer k = kept-follows b v m h.related c m answer k
 
   -- lent a memory of another length, and refused for it
   by-another : (call : View → Outcome View (List ℕ)) (lent given left : List ℕ) (answer : Answer) (t' : Target) → Met call t given answer t' left
-      → Refused v (call v)
+      → call v ≡ refusal v given Refusal.BadMemory
       → ((answer : Answer) → answer ≡ refused Refusal.BadMemory → Follows b m (line_elsewhere m lent answer) v m)
       → Reaches b m (line_elsewhere m lent answer) t' m
   by-another call lent given left answer t' p bad f =
       let e = p.outcome ∙ ap (λ (s : Seen). unless_unsound call s given) h.is in
       record {
         view = v;
-        is = ap (λ (o : Outcome Seen (List ℕ)). o.state) e ∙ ap sound bad.state;
-        follows = f answer (ap (λ (o : Outcome Seen (List ℕ)). o.answer) e ∙ bad.answer);
+        is = ap (λ (o : Outcome Seen (List ℕ)). o.state) e ∙ ap (λ (o : Outcome View (List ℕ)). sound o.state) bad;
+        follows = f answer (ap (λ (o : Outcome Seen (List ℕ)). o.answer) e ∙ ap (λ (o : Outcome View (List ℕ)). o.answer) bad);
       }
 
 -- one clause for each kind of step
 step : (b : Ledger) (t t' : Target) (m m' : List ℕ) (l : Line) → At b t m → Stepped t m l t' m' → Reaches b m l t' m'
 step b t t' m m' l h (runs.append {e = e} r p) =
-    by_call b t m h (calls.append e) _ tt tt _ t' p
+    by_call b t m h (calls.append e) _ (λ _. m) tt tt _ t' p
     (stays b t m h (calls.append e) (early.append-answered b h.view m h.related e) (early.append-kept b h.view m h.related e))
 step b t t' m m' l h (runs.unlink {handle = handle} r p) =
-    by_call b t m h (calls.unlink handle) _ tt tt _ t' p
+    by_call b t m h (calls.unlink handle) _ (λ _. m) tt tt _ t' p
     (stays b t m h (calls.unlink handle) (early.unlink-answered b h.view m h.related handle) (early.unlink-kept b h.view m h.related handle))
 step b t t' m m' l h (runs.search {e = e} r p) =
-    by_call b t m h (calls.search e) _ tt tt _ t' p
+    by_call b t m h (calls.search e) _ (λ _. m) tt tt _ t' p
     (stays b t m h (calls.search e) (early.search-answered b h.view m h.related e) (early.search-kept b h.view m h.related e))
 step b t t' m m' l h (runs.put {q = q} {payload = payload} r p) =
-    let s = requests.put-served b h.view m h.related q payload in
-    by-put b t m h (calls.put q payload) (λ v. put v m q payload) m' _ t' p
-    (kept-follows b h.view m h.related (calls.put q payload) _ s.size (requests.put-answered b h.view m h.related q payload) s.kept)
+    by_call b t m h (calls.put q payload) (λ v. put v m q payload) (λ memory. memory) m m' _ t' p
+    (kept-follows b h.view m h.related (calls.put q payload) _ (requests.put-answered b h.view m h.related q payload)
+    (requests.put-kept b h.view m h.related q payload))
 step b t t' m m' l h (runs.put_elsewhere lent {lent'} q payload r p e) =
     by-another b t m h (λ v. put v lent q payload) lent lent lent' _ t' p
     (requests.put-another b h.view m h.related q payload lent e)
     (requests.elsewhere-follows b h.view m h.related q lent e)
 step b t t' m m' l h (runs.get {q = q} {reply = reply} {reply' = reply'} r p) =
-    by_call b t m h (calls.get q reply) (λ v. get v m q reply) reply reply' _ t' p
-    (stays b t m h (calls.get q reply) (requests.get-answered b h.view m h.related q reply) (requests.get-served b h.view m h.related q reply).kept)
+    by_call b t m h (calls.get q reply) (λ v. get v m q reply) (λ _. m) reply reply' _ t' p
+    (stays b t m h (calls.get q reply) (requests.get-answered b h.view m h.related q reply) (requests.get-kept b h.view m h.related q reply))
 step b t t' m m' l h (runs.get_elsewhere lent q {reply} {reply'} r p e) =
     by-another b t m h (λ v. get v lent q reply) lent reply reply' _ t' p
     (requests.get-another b h.view m h.related q reply lent e)
     (requests.elsewhere-follows b h.view m h.related q lent e)
 step b t t' m m' l h (runs.read_event r p) =
-    by_call b t m h calls.read_event _ tt tt _ t' p
+    by_call b t m h calls.read_event _ (λ _. m) tt tt _ t' p
     (stays b t m h calls.read_event (counters.read-event-answered b h.view m h.related) (counters.read-event-kept b h.view m h.related))
 step b t t' m m' l h (runs.set_counter {x = x} r p) =
-    by_call b t m h (calls.set_counter x) _ tt tt _ t' p
+    by_call b t m h (calls.set_counter x) _ (λ _. m) tt tt _ t' p
     (stays b t m h (calls.set_counter x) (counters.set-counter-answered b h.view m h.related x) (counters.set-counter-kept b h.view m h.related x))
 step b t t' m m' l h (runs.increment {x = x} r p) =
-    by_call b t m h (calls.increment x) _ tt tt _ t' p
+    by_call b t m h (calls.increment x) _ (λ _. m) tt tt _ t' p
     (stays b t m h (calls.increment x) (counters.increment-answered b h.view m h.related x) (counters.increment-kept b h.view m h.related x))
 step b t t' m m' l h (runs.read_counter {k = k} r p) =
     by_read b t m h (calls.read_counter k) _ _ p
@@ -180,7 +168,7 @@ seen-is t v e = go (is_sound t) refl e
   where
     go : (x : Bool) → is_sound t ≡ x → seen_if x t ≡ sound v → (is_sound t ≡ true) × (view_of t ≡ v)
     go true s h = (s, cc)
-    go false s h = let z : ◌≡◌ {A = ℕ} 0 1 = cc in absurd (omega arith)
+    go false s h = cc
 
 zero-register : (x y : Bool) → ◌≡◌ {A = ℕ} (cond x 0 (cond y 0 0)) 0
 zero-register true y = refl
@@ -215,11 +203,11 @@ made-empty s =
     (λ why. refl)
     (λ passed. refl)
 
-starts : (s : Settings) (new : NewDone) (m : List ℕ) → NewMet s new → length m ≡ (view_of new.target).size → At empty new.target m
+starts : (s : Settings) (new : Done (Result Unit Refusal)) (m : List ℕ) → NewMet s new → length m ≡ (view_of new.target).size → At empty new.target m
 starts s new m p fits =
     let size = (making.new s).state.size in
     let is = p.state ∙ ap sound (made-empty s) in
-    begins size new.target m is (subst (λ v. sound_view v ≡ true) (made-empty s) (call-laws.made s))
+    begins size new.target m is (subst (λ v. sound_view v ≡ true) (made-empty s) (call_laws.made s))
     (fits ∙ ap (λ (v : View). v.size) (seen-is new.target (empty_view size) is).1)
 
 -- ## The claim

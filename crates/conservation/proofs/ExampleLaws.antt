@@ -2,13 +2,13 @@
 use mathlib.Core.Path.{◌≡◌, refl, ap, sym, ◌∙◌, subst}
 use mathlib.Core.Bool.{true}
 use mathlib.Core.List.{List, [], ◌∷◌, ◌++◌}
+use Rattle.std.specs.Prelude.{Result}
 use Prim.Native.Nat.{ℕ}
 use lib.ListN.{set}
 use Rattle.matching.specs.Entry.{bad_entry_argument}
 use Rattle.matching.specs.Request.{bad_request_argument, offset_used, available, bits_agree, allows_length, matches, verdict_on, accepted, place, local_after, unlinks, ack_given}
 use Rattle.matching.specs.EarlyMessages.{takes_headers, fits}
-use Rattle.matching.specs.declared.layout.Entry.{Entry}
-use Rattle.matching.specs.declared.layout.Request.{Request}
+use Rattle.matching.specs.declared.refusals.Refusal.{Refusal}
 use Rattle.state.specs.View.{View, empty_view}
 use Rattle.state.specs.Soundness.{Seen, sound, seen}
 use Rattle.state.specs.declared.layout.Target.{Target}
@@ -20,15 +20,14 @@ use Rattle.early.specs.Handling.{handled}
 use Rattle.portals.specs.Answers.{Answer, LINKED, TAKEN, OVERFLOW, append_answer, request_answer}
 use Rattle.portals.specs.Outcome.{Outcome, unless_unsound}
 use Rattle.portals.specs.Making as making
-use Rattle.portals.specs.Request.{decided}
 use Rattle.portals.specs.Request as request
 use Rattle.portals.specs.EarlyMessages as early
 use Rattle.claims.specs.BenchCases.{request_of}
 use Rattle.portals.specs.Promises.{Met, NewMet, AppendMet, PutMet}
 use Rattle.portals.specs.Calls.{append, put}
-use Rattle.portals.specs.declared.answers.NewDone.{NewDone}
-use Rattle.portals.specs.declared.answers.AppendDone.{AppendDone}
-use Rattle.portals.specs.declared.answers.RequestDone.{RequestDone}
+use Rattle.portals.specs.declared.answers.Appended.{Appended}
+use Rattle.portals.specs.declared.answers.RequestAnswer.{RequestAnswer}
+use Rattle.portals.specs.declared.answers.Done.{Done}
 use Rattle.conservation.specs.Ledger.{chosen, add_event}
 use Rattle.conservation.specs.Runs.{line, Stepped, Ran}
 use Rattle.conservation.specs.Runs as runs
@@ -52,15 +51,15 @@ unfolding empty early.append bad_entry_argument
 linked-answer = refl
 
 put-answer : (request.put linked zeros (request_of 5 0) (97 ∷ 98 ∷ 99 ∷ [])).answer ≡ OVERFLOW 3 0 1
-unfolding linked empty early.append bad_entry_argument handled request.put decided bad_request_argument decide choose matches bits_agree allows_length verdict_on takes_headers message accepted available offset_used place ack_given
+unfolding linked empty early.append bad_entry_argument handled request.put bad_request_argument decide choose matches bits_agree allows_length verdict_on takes_headers message accepted available offset_used place ack_given
 put-answer = refl
 
 put-stores : (request.put linked zeros (request_of 5 0) (97 ∷ 98 ∷ 99 ∷ [])).buffer ≡ stored
-unfolding linked empty early.append bad_entry_argument handled request.put decided bad_request_argument decide choose matches bits_agree allows_length verdict_on takes_headers message accepted available offset_used place
+unfolding linked empty early.append bad_entry_argument handled request.put bad_request_argument decide choose matches bits_agree allows_length verdict_on takes_headers message accepted available offset_used place
 put-stores = refl
 
 taken-answer : (early.append waiting taking_entry).answer ≡ TAKEN
-unfolding waiting linked empty early.append bad_entry_argument handled request.put decided bad_request_argument decide choose matches bits_agree allows_length verdict_on takes_headers message accepted available offset_used place local_after unlinks walk_for fits
+unfolding waiting linked empty early.append bad_entry_argument handled request.put bad_request_argument decide choose matches bits_agree allows_length verdict_on takes_headers message accepted available offset_used place local_after unlinks walk_for fits
 taken-answer = refl
 
 -- the message's stay, from the ledger alone
@@ -101,7 +100,7 @@ module _ {B : Type 0} (call : View → Outcome View B) (t t' : Target) (lent lef
 abbrev payload : List ℕ
 payload = 97 ∷ 98 ∷ 99 ∷ []
 
-module _ (new : NewDone) (first last : AppendDone) (arrived : RequestDone) (m : List ℕ)
+module _ (new : Done (Result Unit Refusal)) (first last : Done (Result Appended Refusal)) (arrived : Done (Result RequestAnswer Refusal)) (m : List ℕ)
     (made : NewMet (record { size = 16 }) new) (p : AppendMet new.target overflow_entry first)
     (q : PutMet first.target zeros (request_of 5 0) payload arrived m) (r : AppendMet arrived.target taking_entry last) where
   new-seen : seen new.target ≡ sound empty
@@ -155,19 +154,3 @@ module _ (new : NewDone) (first last : AppendDone) (arrived : RequestDone) (m : 
         undisturbed = undisturbed-by;
         stands = c.bytes abc stays manages undisturbed-by;
       }
-
--- with the entries and the request as the functions give them
-pub example-of : (e f : Entry) (w : Request) (new : NewDone) (first last : AppendDone) (arrived : RequestDone) (m : List ℕ)
-    → e ≡ overflow_entry
-    → f ≡ taking_entry
-    → w ≡ request_of 5 0
-    → NewMet (record { size = 16 }) new
-    → AppendMet new.target e first
-    → PutMet first.target zeros w payload arrived m
-    → AppendMet arrived.target f last
-    → Example (record { target = last.target; memory = set m 12 7 })
-example-of e f w new first last arrived m is-e is_f is-w made p q r =
-    example new first last arrived m made
-    (subst (λ (x : Entry). AppendMet new.target x first) is-e p)
-    (subst (λ (x : Request). PutMet first.target zeros x payload arrived m) is-w q)
-    (subst (λ (x : Entry). AppendMet arrived.target x last) is_f r)

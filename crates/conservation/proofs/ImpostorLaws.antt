@@ -32,44 +32,44 @@ untouched-refused : IsRefused memory_untouched
 unfolding untouched-stay chosen matches bits_agree allows_length takes_headers message accepted available offset_used place local_after unlinks add_event fits verdict_on
 untouched-refused t m c =
     let e : ◌≡◌ {A = List ℕ} (0 ∷ 0 ∷ 0 ∷ []) (97 ∷ 98 ∷ 99 ∷ []) = c.bytes abc untouched-stay refl refl in
-    let z : ◌≡◌ {A = ℕ} 0 97 = cc in absurd (omega arith)
+    grind arith
 
 -- the others have another answer than the ledger's, or are refused for a memory of the right length: here the two answers, at the line
 -- where they differ
-pub impostors-refused : ImpostorsRefused
+pub impostors_refused : ImpostorsRefused
 unfolding bad_entry_argument bad_request_argument chosen matches bits_agree allows_length available offset_used verdict_on takes_headers accepted ack_given place message local_after unlinks fits
-impostors-refused = (
-  λ t m c. let e : DROPPED 1 ≡ OVERFLOW 3 0 1 = c.each.1.0.answer in let z : ◌≡◌ {A = ℕ} 0 1 = cc in absurd (omega arith),
+impostors_refused = (
+  λ t m c. let e : DROPPED 1 ≡ OVERFLOW 3 0 1 = c.each.1.0.answer in grind arith,
   (
-    λ t m c. let e : REFUSED 4 ≡ LINKED 1 = c.each.0.answer in let z : ◌≡◌ {A = ℕ} 0 1 = cc in absurd (omega arith),
+    λ t m c. let e : REFUSED 4 ≡ LINKED 1 = c.each.0.answer in grind arith,
     (
-      λ t m c. let e : PRIORITY 0 0 0 ≡ OVERFLOW 3 0 1 = c.each.1.0.answer in let z : ◌≡◌ {A = ℕ} 0 1 = cc in absurd (omega arith),
+      λ t m c. let e : PRIORITY 0 0 0 ≡ OVERFLOW 3 0 1 = c.each.1.0.answer in grind arith,
       (
-        λ t m c. let e : SEARCHED 0 ≡ SEARCHED 1 = c.each.1.1.0.answer in let z : ◌≡◌ {A = ℕ} 0 1 = cc in absurd (omega arith),
+        λ t m c. let e : SEARCHED 0 ≡ SEARCHED 1 = c.each.1.1.0.answer in grind arith,
         (
           untouched-refused,
           (
-            λ t m c. let e : OVERFLOW 3 0 1 ≡ OVERFLOW 3 3 1 = c.each.1.1.0.answer in let z : ◌≡◌ {A = ℕ} 0 3 = cc in absurd (omega arith),
+            λ t m c. let e : OVERFLOW 3 0 1 ≡ OVERFLOW 3 3 1 = c.each.1.1.0.answer in grind arith,
             (
-              λ t m c. let e : LINKED 1 ≡ LINKED 2 = c.each.1.0.answer in let z : ◌≡◌ {A = ℕ} 1 2 = cc in absurd (omega arith),
+              λ t m c. let e : LINKED 1 ≡ LINKED 2 = c.each.1.0.answer in grind arith,
               (
-                λ t m c. let e : SEARCHED 1 ≡ SEARCHED 2 = c.each.1.1.1.1.0.answer in let z : ◌≡◌ {A = ℕ} 1 2 = cc in absurd (omega arith),
+                λ t m c. let e : SEARCHED 1 ≡ SEARCHED 2 = c.each.1.1.1.1.0.answer in grind arith,
                 (
-                  λ t m c. let e : TAKEN ≡ LINKED 2 = c.each.1.1.1.0.answer in let z : ◌≡◌ {A = ℕ} 0 1 = cc in absurd (omega arith),
+                  λ t m c. let e : TAKEN ≡ LINKED 2 = c.each.1.1.1.0.answer in grind arith,
                   (
-                    λ t m c. let e : REGISTER 1 ≡ REGISTER 0 = c.each.0.answer in let z : ◌≡◌ {A = ℕ} 0 1 = cc in absurd (omega arith),
+                    λ t m c. let e : REGISTER 1 ≡ REGISTER 0 = c.each.0.answer in grind arith,
                     (
-                      λ t m c. let e : OVERFLOW 4 0 1 ≡ OVERFLOW 3 0 1 = c.each.1.0.answer in let z : ◌≡◌ {A = ℕ} 3 4 = cc in absurd (omega arith),
+                      λ t m c. let e : OVERFLOW 4 0 1 ≡ OVERFLOW 3 0 1 = c.each.1.0.answer in grind arith,
                       (
-                        λ t m c. let e : SEARCHED 2 ≡ SEARCHED 1 = c.each.1.1.0.answer in let z : ◌≡◌ {A = ℕ} 1 2 = cc in absurd (omega arith),
+                        λ t m c. let e : SEARCHED 2 ≡ SEARCHED 1 = c.each.1.1.0.answer in grind arith,
                         (
-                          λ t m c. let e : DONE ≡ REFUSED 5 = c.each.1.1.0.answer in let z : ◌≡◌ {A = ℕ} 0 1 = cc in absurd (omega arith),
+                          λ t m c. let e : DONE ≡ REFUSED 5 = c.each.1.1.0.answer in grind arith,
                           (
-                            λ t m c. let e : REFUSED 3 ≡ COUNTER 0 0 = c.each.0.answer in let z : ◌≡◌ {A = ℕ} 0 1 = cc in absurd (omega arith),
+                            λ t m c. let e : REFUSED 3 ≡ COUNTER 0 0 = c.each.0.answer in grind arith,
                             (
                               λ t m c. true≢false c.each.0.answer.0,
                               (
-                                λ t m c. let e : COUNTER 1 0 ≡ COUNTER 0 0 = c.each.0.answer in let z : ◌≡◌ {A = ℕ} 0 1 = cc in absurd (omega arith),
+                                λ t m c. let e : COUNTER 1 0 ≡ COUNTER 0 0 = c.each.0.answer in grind arith,
                                 tt,
                               ),
                             ),

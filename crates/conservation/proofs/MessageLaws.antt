@@ -20,7 +20,7 @@ use Rattle.conservation.proofs.AllLaws.{all-last}
 use Rattle.conservation.proofs.EntryLaws.{home-given}
 
 message-stays : (arrivals more : List Message) (n : ℕ) → n < length arrivals → message_at (arrivals ++ more) n ≡ message_at arrivals n
-message-stays [] more n h = let z : ⊥ = omega arith in absurd z
+message-stays [] more n h = absurd (omega arith)
 message-stays (x ∷ l) more zero h = refl
 message-stays (x ∷ l) more (suc n) h = message-stays l more n (omega arith)
 

@@ -133,7 +133,7 @@ module _ (n : ℕ) where
   one_more k = go (dec_lt n k) (ℕ_discrete k n)
     where
       go : Dec (n < k) → Dec (k ≡ n) → cond (eqb k n) 1 0 + cond (ltb n k) 1 0 ≡ cond (ltb n (k + 1)) 1 0
-      go (yes h) (yes e) = let z : ⊥ = omega arith in absurd z
+      go (yes h) (yes e) = absurd (omega arith)
       go (yes h) (no e) = rw (ne_eqb _ _ e, lt-ltb _ _ h, lt-ltb n (k + 1) (omega arith))
       go (no h) (yes e) = let a : k ≤ n = omega arith in rw (eq-eqb _ _ e, le-ltb _ _ a, lt-ltb n (k + 1) (omega arith))
       go (no h) (no e) = let a : k ≤ n = omega arith in rw (ne_eqb _ _ e, le-ltb _ _ a, le-ltb n (k + 1) (omega arith))

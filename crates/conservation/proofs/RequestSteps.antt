@@ -2,12 +2,13 @@
 use mathlib.Core.Path.{◌≡◌, refl, ap, sym, ◌∙◌, subst}
 use mathlib.Core.Bool.{Bool, true, false, ◌||◌, not, cond}
 use mathlib.Core.List.{List, [], ◌∷◌, ◌++◌}
-use Rattle.std.specs.Prelude.{Option, None, Some}
-use Prim.Native.Nat.{ℕ, zero, suc, ◌+◌, ◌<◌, ◌≤◌, ◌%◌, ◌^◌}
+use Rattle.std.specs.Prelude.{Option, None, Some, Result, Ok, Err}
+use Prim.Native.Nat.{ℕ, ◌+◌, ◌<◌, ◌≤◌, ◌%◌, ◌^◌}
 use native.Mathlib.Omega.{arith}
 use borrow.Author.Tests.{eq-eqb}
 use lib.Dec.{eqb, ltb}
 use lib.ListN.{length, take, length-map, length-append, length-take, length-drop}
+use lib.Seq.{take-nil}
 use Rattle.matching.specs.Request.{bad_request_argument, arrival_of, offset_used, accepted, place, verdict_on, ack_asked, ack_given}
 use Rattle.matching.specs.EarlyMessages.{takes_headers}
 use Rattle.matching.specs.Counters.{comm_amount}
@@ -15,7 +16,7 @@ use Rattle.matching.specs.declared.layout.Request.{Request}
 use Rattle.matching.specs.declared.refusals.Refusal.{Refusal}
 use Rattle.matching.specs.declared.request.Arrival.{Arrival}
 use Rattle.matching.specs.declared.request.Kind.{Kind}
-use Rattle.matching.specs.declared.request.Verdict.{Verdict}
+use Rattle.matching.specs.declared.request.Violation.{Violation}
 use Rattle.state.specs.Sizes.{HEADERS}
 use Rattle.state.specs.Lists.{any, overwritten}
 use Rattle.state.specs.View.{View, entry_at, is_linked, with_registers, zero_entry}
@@ -30,17 +31,17 @@ use Rattle.state.proofs.ListLaws.{cond_cases, every-at}
 use Rattle.state.proofs.SoundLaws.{sound-facts, entry-facts, region-fits}
 use Rattle.requests.specs.Choice.{choose}
 use Rattle.requests.specs.Plan as requests
-use Rattle.requests.specs.Plan.{message, plan, entries_after, request_events, bytes_put}
+use Rattle.requests.specs.Plan.{message, plan, entries_after, request_events, bytes_put, bytes_got}
 use Rattle.requests.specs.Decision.{has_room, decide_by, decide_on, decide, if_delivered, request_state}
 use Rattle.requests.specs.declared.choice.Choice.{Choice}
+use Rattle.requests.specs.declared.plan.Plan.{Plan}
 use Rattle.requests.specs.declared.decision.Decision.{Decision}
 use Rattle.portals.specs.Refusals.{good_arguments, unless_refused}
 use Rattle.portals.specs.Answers.{Answer, PRIORITY, OVERFLOW, DROPPED, PERM, OP, refused}
-use Rattle.portals.specs.Outcome.{Outcome}
-use Rattle.portals.specs.Request.{answer_by, request_tests, decided, put, get}
+use Rattle.portals.specs.Outcome.{refusal}
+use Rattle.portals.specs.Request.{answer_by, request_tests, carried_out, requested, put, get}
 use Rattle.portals.specs.Calls.{Call}
 use Rattle.portals.specs.Calls as calls
-use Rattle.portals.proofs.GuardLaws.{guard-cases, unless-map}
 use Rattle.conservation.specs.Steps.{called, elsewhere, count, event_in, says_linked, says_dropped, says_perm, says_op, says_priority, says_overflow}
 use Rattle.conservation.specs.Ledger.{counters_after, Ledger, nothing, delivery, chosen, delivery_to, request_effect, call_effect, linked_after, message_of, message_at, hear}
 use Rattle.conservation.specs.Runs.{line_elsewhere}
@@ -54,7 +55,7 @@ use Rattle.conservation.proofs.NumberLaws.{none_found}
 use Rattle.conservation.proofs.EntryLaws.{ChosenAs, priority, overflow, chosen-as, delivered-linked, home-delivered, home-new}
 use Rattle.conservation.proofs.EntryLaws as entries
 use Rattle.conservation.proofs.MessageLaws.{Messages, Homes, messages-parted, messages-arrive}
-use Rattle.conservation.proofs.StepLaws.{Kept, same_count, one_more, same-register, messages, same-messages, same_read, refused-kept}
+use Rattle.conservation.proofs.StepLaws.{Kept, same_count, one_more, same-register, messages, same-messages, same_read, guarded-kept, guarded-answers}
 use Rattle.conservation.proofs.EarlySteps.{issued-added}
 
 -- ## The bytes
@@ -107,52 +108,46 @@ module _ (rs : Registers) (heard : List Answer) (same : (k : ℕ) → register_a
 
 -- ## A request
 
--- what a request leaves, and that the memory keeps its length
-pub record Served (b : Ledger) (m : List ℕ) (c : Call) (a : Answer) (v' : View) (m' : List ℕ) : Type 0 where
-  pub kept : Kept b m c a v' m'
-  pub size : length m' ≡ length m
-
--- and its answer is the ledger's
-record ServedAs (expects : Answer) (b : Ledger) (m : List ℕ) (c : Call) (a : Answer) (v' : View) (m' : List ℕ) : Type 0 where
-  served : Served b m c a v' m'
+-- what a request leaves, and that its answer is the ledger's
+record Served (expects : Answer) (b : Ledger) (m : List ℕ) (c : Call) (a : Answer) (v' : View) (m' : List ℕ) : Type 0 where
+  kept : Kept b m c a v' m'
   right : a ≡ expects
 
--- `after` gives the memory that a decision leaves: the payload's bytes where it delivers
-module _ (b : Ledger) (v : View) (m : List ℕ) (r : Related b v m) (c : Call) (q : Request) (kind : Kind) (requested : ℕ) (payload : List ℕ)
-    (effects : (answer : Answer) → call_effect b.linked c answer ≡ request_effect b.linked q.portal (arrival_of q kind requested) payload answer)
-    (after : Decision → List ℕ)
-    (drops : after Decision.Drop ≡ m) (permission : after Decision.DenyPermission ≡ m) (operation : after Decision.DenyOperation ≡ m)
-    (written : (k : ℕ) → after (Decision.Deliver (plan v.entries q.portal (arrival_of q kind requested) k))
-    ≡ memory_by m (delivery q.portal (arrival_of q kind requested) payload (entry_at v.entries k)))
-    (refuses : (why : Refusal) → after (Decision.Refuse why) ≡ m) where
+-- `left`: the memory after the call, by the lent buffer as it is left: of a put that is the memory
+module _ (b : Ledger) (v : View) (m : List ℕ) (r : Related b v m) (c : Call) (q : Request) (kind : Kind) (n : ℕ) (payload : List ℕ)
+    (effects : (answer : Answer) → call_effect b.linked c answer ≡ request_effect b.linked q.portal (arrival_of q kind n) payload answer)
+    (moved : Plan → List ℕ) (lent : List ℕ) (left : List ℕ → List ℕ)
+    (untouched : left lent ≡ m)
+    (written : (k : ℕ) → left (moved (plan v.entries q.portal (arrival_of q kind n) k))
+    ≡ memory_by m (delivery q.portal (arrival_of q kind n) payload (entry_at v.entries k))) where
   abbrev a : Arrival
-  a = arrival_of q kind requested
+  a = arrival_of q kind n
+
+  abbrev Serves_as : Answer → View → List ℕ → Type 0
+  Serves_as answer v' m' = Served (expected_of_request b q a) b m c answer v' m'
 
   abbrev Serves : Decision → Type 0
-  Serves d = ServedAs (expected_of_request b q a) b m c (answer_by kind q.ack d) (request_state v d) (after d)
+  Serves d = Serves_as (answer_by kind q.ack d) (request_state v d) (left (if_delivered moved lent d))
 
   -- DROPPED, PERM and OP: only a register moves
-  denied : (d : Decision) (answer : Answer) (rs : Registers) → after d ≡ m
-      → event_in answer ≡ []
+  denied : (answer : Answer) (rs : Registers) → event_in answer ≡ []
       → says_linked answer ≡ false
       → request_effect b.linked q.portal a payload answer ≡ nothing
       → ((k : ℕ) → register_at rs k ≡ register_of (b.heard ++ (answer ∷ [])) k)
       → answer ≡ expected_of_request b q a
-      → ServedAs (expected_of_request b q a) b m c answer (with_registers v rs) (after d)
-  denied d answer rs untouched event handle effect counted right = record {
-    served = record {
-      kept = record {
-        d = nothing;
-        effect = effects answer ∙ effect;
-        linked = r.linked;
-        messages = same-messages b v m r;
-        events = same_read b v m r answer v.queue b.events event r.events;
-        last = r.last ∙ sym (same_count says_linked b.heard answer handle);
-        registers = counted;
-        counters = r.counters;
-        memory = untouched;
-      };
-      size = ap length (untouched);
+      → Serves_as answer (with_registers v rs) (left lent)
+  denied answer rs event handle effect counted right = record {
+    kept = record {
+      d = nothing;
+      effect = effects answer ∙ effect;
+      linked = r.linked;
+      messages = same-messages b v m r;
+      events = same_read b v m r answer v.queue b.events event r.events;
+      last = r.last ∙ sym (same_count says_linked b.heard answer handle);
+      registers = counted;
+      counters = r.counters;
+      memory = untouched;
+      size = ap length untouched;
     };
     right = right;
   }
@@ -160,7 +155,7 @@ module _ (b : Ledger) (v : View) (m : List ℕ) (r : Related b v m) (c : Call) (
   -- by the ledger's choice
   dropped-by : chosen b.linked q.portal a ≡ None → Serves Decision.Drop
   dropped-by none-chosen =
-      denied Decision.Drop (DROPPED (ack_asked kind q.ack)) _ drops refl refl refl
+      denied (DROPPED (ack_asked kind q.ack)) _ refl refl refl
       (dropped-counted v.registers b.heard r.registers (ack_asked kind q.ack))
       (ap (answer_on b a q.ack) (sym none-chosen))
 
@@ -170,7 +165,7 @@ module _ (b : Ledger) (v : View) (m : List ℕ) (r : Related b v m) (c : Call) (
     x = entry_at v.entries k
 
     -- the answer on the chosen entry, by the verdict on it and room
-    right_by : (verdict : Verdict) (room : Bool) → verdict_on x.entry a ≡ verdict → has_room v.headers x ≡ room
+    right_by : (verdict : Result Unit Violation) (room : Bool) → verdict_on x.entry a ≡ verdict → has_room v.headers x ≡ room
         → answer_of x a q.ack verdict room ≡ expected_of_request b q a
     right_by verdict room e f =
         let same : has_room v.headers x ≡ ledger.room_for b x =
@@ -227,50 +222,51 @@ module _ (b : Ledger) (v : View) (m : List ℕ) (r : Related b v m) (c : Call) (
         → any (λ p. p answer) (says_dropped ∷ says_perm ∷ says_op ∷ []) ≡ false
         → (says_priority answer || says_overflow answer) ≡ true
         → answer ≡ expected_of_request b q a
-        → ServedAs (expected_of_request b q a) b m c answer (request_state v (Decision.Deliver (plan v.entries q.portal a k))) (after (Decision.Deliver (plan v.entries q.portal a k)))
+        → Serves_as answer (request_state v (Decision.Deliver (plan v.entries q.portal a k)))
+        (left (moved (plan v.entries q.portal a k)))
     delivered-by answer event handle counts said right = record {
-      served = record {
-        kept = record {
-          d = delivery q.portal a payload x;
-          effect = effects answer ∙ ap (λ s. cond s (delivery_to q.portal a payload (chosen b.linked q.portal a)) nothing) said ∙ ap (delivery_to q.portal a payload) is;
-          linked = delivered-linked v.entries q.portal a payload k (sound-facts v r.is_sound).handles inside linked
-              ∙ ap (λ l. linked_after l (delivery q.portal a payload x)) r.linked;
-          messages = delivered-messages (takes_headers x.entry) refl;
-          events = issued-added b v m r answer (request_events (plan v.entries q.portal a k)) _ event refl;
-          last = r.last ∙ sym (same_count says_linked b.heard answer handle);
-          registers = λ n. r.registers n ∙ sym (same-register b.heard answer counts n);
-          counters = counted-here;
-          memory = written k;
-        };
+      kept = record {
+        d = delivery q.portal a payload x;
+        effect = effects answer
+            ∙ ap (λ s. cond s (delivery_to q.portal a payload (chosen b.linked q.portal a)) nothing) said
+            ∙ ap (delivery_to q.portal a payload) is;
+        linked = delivered-linked v.entries q.portal a payload k (sound-facts v r.is_sound).handles inside linked
+            ∙ ap (λ l. linked_after l (delivery q.portal a payload x)) r.linked;
+        messages = delivered-messages (takes_headers x.entry) refl;
+        events = issued-added b v m r answer (request_events (plan v.entries q.portal a k)) _ event refl;
+        last = r.last ∙ sym (same_count says_linked b.heard answer handle);
+        registers = λ n. r.registers n ∙ sym (same-register b.heard answer counts n);
+        counters = counted-here;
+        memory = written k;
         size = ap length (written k) ∙ written-length;
       };
       right = right;
     }
 
-    granted : answer_of x a q.ack Verdict.Granted true ≡ expected_of_request b q a → Serves (Decision.Deliver (plan v.entries q.portal a k))
+    granted : answer_of x a q.ack (Ok tt) true ≡ expected_of_request b q a → Serves (Decision.Deliver (plan v.entries q.portal a k))
     unfolding message
     granted right =
         let n = accepted x.entry x.local a in
         let o = offset_used x.entry x.local a in
         let ack = ack_given x.entry.options kind q.ack in
         let p = plan v.entries q.portal a k in
-        cond_cases (λ answer. ServedAs (expected_of_request b q a) b m c answer (request_state v (Decision.Deliver p)) (after (Decision.Deliver p)))
+        cond_cases (λ answer. Serves_as answer (request_state v (Decision.Deliver p)) (left (moved p)))
         (eqb x.entry.list 0) (PRIORITY n o ack) (OVERFLOW n o ack)
         (λ first. delivered-by (PRIORITY n o ack) refl refl refl refl (ap (λ y. cond y (PRIORITY n o ack) (OVERFLOW n o ack)) (sym first) ∙ right))
         (λ second. delivered-by (OVERFLOW n o ack) refl refl refl refl (ap (λ y. cond y (PRIORITY n o ack) (OVERFLOW n o ack)) (sym second) ∙ right))
 
-    chosen_by : (verdict : Verdict) (room : Bool) → verdict_on x.entry a ≡ verdict → has_room v.headers x ≡ room
+    chosen_by : (verdict : Result Unit Violation) (room : Bool) → verdict_on x.entry a ≡ verdict → has_room v.headers x ≡ room
         → Serves (decide_by verdict room (plan v.entries q.portal a k))
-    chosen_by Verdict.PermissionViolation room e f =
-        denied Decision.DenyPermission (PERM (ack_asked kind q.ack)) _ permission refl refl refl
-        (permission-counted v.registers b.heard r.registers (ack_asked kind q.ack)) (right_by Verdict.PermissionViolation room e f)
-    chosen_by Verdict.OperationViolation room e f =
-        denied Decision.DenyOperation (OP (ack_asked kind q.ack)) _ operation refl refl refl
-        (operation-counted v.registers b.heard r.registers (ack_asked kind q.ack)) (right_by Verdict.OperationViolation room e f)
-    chosen_by Verdict.Granted false e f =
-        denied Decision.Drop (DROPPED (ack_asked kind q.ack)) _ drops refl refl refl
-        (dropped-counted v.registers b.heard r.registers (ack_asked kind q.ack)) (right_by Verdict.Granted false e f)
-    chosen_by Verdict.Granted true e f = granted (right_by Verdict.Granted true e f)
+    chosen_by (Err Violation.Permission) room e f =
+        denied (PERM (ack_asked kind q.ack)) _ refl refl refl
+        (permission-counted v.registers b.heard r.registers (ack_asked kind q.ack)) (right_by (Err Violation.Permission) room e f)
+    chosen_by (Err Violation.Operation) room e f =
+        denied (OP (ack_asked kind q.ack)) _ refl refl refl
+        (operation-counted v.registers b.heard r.registers (ack_asked kind q.ack)) (right_by (Err Violation.Operation) room e f)
+    chosen_by (Ok granted) false e f =
+        denied (DROPPED (ack_asked kind q.ack)) _ refl refl refl
+        (dropped-counted v.registers b.heard r.registers (ack_asked kind q.ack)) (right_by (Ok granted) false e f)
+    chosen_by (Ok tt) true e f = granted (right_by (Ok tt) true e f)
 
   -- whatever is decided
   decided-served : Serves (decide v.entries v.headers q.portal a)
@@ -285,46 +281,31 @@ module _ (b : Ledger) (v : View) (m : List ℕ) (r : Related b v m) (c : Call) (
       go _ _ e entries.nothing = dropped-by e
 
   -- behind the request's tests; the memory is the one beside the state
-  served-by : Served b m c (answer_by kind q.ack (decided v (length m) q kind requested)) (request_state v (decided v (length m) q kind requested))
-      (after (decided v (length m) q kind requested))
-  unfolding decided
-  served-by =
-      guard-cases (λ d. Served b m c (answer_by kind q.ack d) (request_state v d) (after d)) Decision.Refuse (request_tests v (length m) q requested)
-      (decide v.entries v.headers q.portal a)
-      (λ why. record { kept = subst (Kept b m c (refused why) v) (sym (refuses why)) (refused-kept b v m r c why); size = ap length (refuses why) })
-      (λ passed. decided-served.served)
+  kept-by : Kept b m c (requested v (length m) q kind n moved lent).answer (requested v (length m) q kind n moved lent).state
+      (left (requested v (length m) q kind n moved lent).buffer)
+  kept-by = guarded-kept b v m r c left lent (request_tests v (length m) q n) _ untouched decided-served.kept
 
-  answered-by : answer_by kind q.ack (decided v (length m) q kind requested)
-      ≡ unless_refused refused (good_arguments (bad_request_argument q requested) ∷ []) (expected_of_request b q a)
-  unfolding decided
+  answered-by : (requested v (length m) q kind n moved lent).answer
+      ≡ unless_refused refused (good_arguments (bad_request_argument q n) ∷ []) (expected_of_request b q a)
   answered-by =
-      unless-map (answer_by kind q.ack) Decision.Refuse (request_tests v (length m) q requested) (decide v.entries v.headers q.portal a)
+      guarded-answers v lent (request_tests v (length m) q n) _
       ∙ (λ i. unless_refused refused
-      (record { passed = eq-eqb (length m) v.size r.memory i; refusal = Refusal.BadMemory } ∷ good_arguments (bad_request_argument q requested) ∷ [])
+      (record { passed = eq-eqb (length m) v.size r.memory i; refusal = Refusal.BadMemory } ∷ good_arguments (bad_request_argument q n) ∷ [])
       (decided-served.right i))
-
-take_none : (n : ℕ) → ◌≡◌ {A = List ℕ} (take n []) []
-take_none zero = refl
-take_none (suc n) = refl
-
--- refused for its memory: the state stays
-pub record Refused {B : Type 0} (v : View) (o : Outcome View B) : Type 0 where
-  pub answer : o.answer ≡ refused Refusal.BadMemory
-  pub state : o.state ≡ v
 
 module _ (b : Ledger) (v : View) (m : List ℕ) (r : Related b v m) (q : Request) where
   module _ (payload : List ℕ) where
-    pub put-served : Served b m (calls.put q payload) (put v m q payload).answer (put v m q payload).state (put v m q payload).buffer
+    pub put-kept : Kept b m (calls.put q payload) (put v m q payload).answer (put v m q payload).state (put v m q payload).buffer
     unfolding put message
-    put-served =
-        served-by b v m r (calls.put q payload) q Kind.Put (length payload) payload (λ answer. refl) (if_delivered (bytes_put m payload) m) refl refl refl
-        (λ k. refl) (λ why. refl)
+    put-kept =
+        kept-by b v m r (calls.put q payload) q Kind.Put (length payload) payload (λ answer. refl) (bytes_put m payload) m (λ memory. memory) refl
+        (λ k. refl)
 
     pub put-answered : AnswerRight (length m) b (called (calls.put q payload) (put v m q payload).answer)
     unfolding put message
     put-answered =
-        answered-by b v m r (calls.put q payload) q Kind.Put (length payload) payload (λ answer. refl) (if_delivered (bytes_put m payload) m) refl refl refl
-        (λ k. refl) (λ why. refl)
+        answered-by b v m r (calls.put q payload) q Kind.Put (length payload) payload (λ answer. refl) (bytes_put m payload) m (λ memory. memory) refl
+        (λ k. refl)
 
   module _ (reply : List ℕ) where
     -- a get writes nothing
@@ -332,39 +313,35 @@ module _ (b : Ledger) (v : View) (m : List ℕ) (r : Related b v m) (q : Request
     unwritten k =
         let x = entry_at v.entries k in
         let a = arrival_of q Kind.Get (length reply) in
-        sym (ap (overwritten m (place x.entry x.local a)) (take_none (accepted x.entry x.local a)) ∙ written_none m (place x.entry x.local a))
+        sym (ap (overwritten m (place x.entry x.local a)) (take-nil (accepted x.entry x.local a)) ∙ written_none m (place x.entry x.local a))
 
-    pub get-served : Served b m (calls.get q reply) (get v m q reply).answer (get v m q reply).state m
+    pub get-kept : Kept b m (calls.get q reply) (get v m q reply).answer (get v m q reply).state m
     unfolding get
-    get-served =
-        served-by b v m r (calls.get q reply) q Kind.Get (length reply) [] (λ answer. refl) (λ d. m) refl refl refl unwritten (λ why. refl)
+    get-kept =
+        kept-by b v m r (calls.get q reply) q Kind.Get (length reply) [] (λ answer. refl) (bytes_got m reply) reply (λ left. m) refl unwritten
 
     pub get-answered : AnswerRight (length m) b (called (calls.get q reply) (get v m q reply).answer)
     unfolding get
     get-answered =
-        answered-by b v m r (calls.get q reply) q Kind.Get (length reply) [] (λ answer. refl) (λ d. m) refl refl refl unwritten (λ why. refl)
+        answered-by b v m r (calls.get q reply) q Kind.Get (length reply) [] (λ answer. refl) (bytes_got m reply) reply (λ left. m) refl unwritten
 
   -- ## Lent another memory
 
   -- a memory of another length is refused, before all else
-  another-memory : (kind : Kind) (requested lent : ℕ) → eqb lent (length m) ≡ false → decided v lent q kind requested ≡ Decision.Refuse Refusal.BadMemory
-  unfolding decided
-  another-memory kind requested lent e =
-      ap (λ x. unless_refused Decision.Refuse (record { passed = x; refusal = Refusal.BadMemory } ∷ good_arguments (bad_request_argument q requested) ∷ [])
-      (decide v.entries v.headers q.portal (arrival_of q kind requested)))
-      (ap (eqb lent) (sym r.memory) ∙ e)
+  another-memory : (kind : Kind) (n size : ℕ) (moved : Plan → List ℕ) (lent : List ℕ) → eqb size (length m) ≡ false
+      → requested v size q kind n moved lent ≡ refusal v lent Refusal.BadMemory
+  another-memory kind n size moved lent e =
+      ap (λ x. unless_refused (refusal v lent) (record { passed = x; refusal = Refusal.BadMemory } ∷ good_arguments (bad_request_argument q n) ∷ [])
+      (carried_out v q kind moved lent (decide v.entries v.headers q.portal (arrival_of q kind n))))
+      (ap (eqb size) (sym r.memory) ∙ e)
 
-  pub put-another : (payload lent : List ℕ) → eqb (length lent) (length m) ≡ false → Refused v (put v lent q payload)
+  pub put-another : (payload lent : List ℕ) → eqb (length lent) (length m) ≡ false → put v lent q payload ≡ refusal v lent Refusal.BadMemory
   unfolding put
-  put-another payload lent e =
-      let d = another-memory Kind.Put (length payload) (length lent) e in
-      record { answer = ap (answer_by Kind.Put q.ack) d; state = ap (request_state v) d }
+  put-another payload lent e = another-memory Kind.Put (length payload) (length lent) _ lent e
 
-  pub get-another : (reply lent : List ℕ) → eqb (length lent) (length m) ≡ false → Refused v (get v lent q reply)
+  pub get-another : (reply lent : List ℕ) → eqb (length lent) (length m) ≡ false → get v lent q reply ≡ refusal v reply Refusal.BadMemory
   unfolding get
-  get-another reply lent e =
-      let d = another-memory Kind.Get (length reply) (length lent) e in
-      record { answer = ap (answer_by Kind.Get q.ack) d; state = ap (request_state v) d }
+  get-another reply lent e = another-memory Kind.Get (length reply) (length lent) _ reply e
 
   pub elsewhere-follows : (lent : List ℕ) → eqb (length lent) (length m) ≡ false → (answer : Answer) → answer ≡ refused Refusal.BadMemory
       → Follows b m (line_elsewhere m lent answer) v m

@@ -1,6 +1,6 @@
 -- The ledger counts the slots that are taken, and knows the entry of every waiting message.
 use mathlib.Core.Path.{◌≡◌, refl, ap, sym, ◌∙◌, subst}
-use mathlib.Core.Bool.{Bool, true, false, ◌||◌, not, cond, false≢true, or-false}
+use mathlib.Core.Bool.{Bool, true, false, ◌||◌, not, cond, or-false}
 use mathlib.Core.List.{List, [], ◌∷◌, map}
 use Prim.Native.Nat.{ℕ, ◌+◌}
 use native.Mathlib.Omega.{arith}
@@ -31,7 +31,7 @@ held-named h x e = eqb-true h.handle x.handle (both (waits_in x h) _ (both _ _ (
 
 -- one entry has the handle of a header that is held
 own : (l : List HeldEntry) (h : Header) → distinct l ≡ true → any (holds h) l ≡ true → Own h.handle l
-own [] h d e = absurd (false≢true e)
+own [] h d e = cc
 own (x ∷ l) h d e =
     let s = both (not (any (has_handle x.handle) l)) (distinct l) d in
     by (has_handle h.handle x) refl (not-true _ s.0) (own l h s.1)

@@ -1,7 +1,7 @@
 -- The bytes of a message stand while nothing disturbs them: the bytes clause of specs/Bytes.antt.
 use mathlib.Core.Path.{◌≡◌, refl, ap, sym, ◌∙◌, subst}
-use mathlib.Core.Bool.{Bool, true, false, ◌&&◌, ◌||◌, not, cond, false≢true}
-use mathlib.Core.List.{List, [], ◌∷◌, ◌++◌, append_cancel_left, nil≢cons, head-eq_of_cons-eq}
+use mathlib.Core.Bool.{Bool, true, false, ◌&&◌, ◌||◌, not, cond}
+use mathlib.Core.List.{List, [], ◌∷◌, ◌++◌, append_cancel_left, head-eq_of_cons-eq}
 use mathlib.Core.Logic.{inl}
 use Rattle.std.specs.Prelude.{Option, None, Some}
 use Prim.Native.Nat.{ℕ, ◌+◌, ◌≤◌}
@@ -129,12 +129,12 @@ next-handle : (size : ℕ) (b : Ledger) (e : Entry) (answer : Answer) → Answer
     → handle_in answer ≡ count says_linked b.heard + 1
 next-handle size b e answer right linked =
     guard-cases (λ a. answer ≡ a → handle_in answer ≡ count says_linked b.heard + 1) refused (tests_of size b (append e)) (expected_of_append b e)
-    (λ why is. absurd (false≢true (sym (ap (λ (c : Answer). says_linked c) is) ∙ linked)))
+    (λ why is. let e = ap (λ (c : Answer). says_linked c) is in cc)
     (λ passed is. by (uses_once e && not (is_empty (append_walk b e).found)) _ answer is linked)
     right
   where
     by : (taken : Bool) (n : ℕ) (a : Answer) → a ≡ cond taken TAKEN (LINKED n) → says_linked a ≡ true → handle_in a ≡ n
-    by true n a is e = absurd (false≢true (sym (ap (λ (c : Answer). says_linked c) is) ∙ e))
+    by true n a is e = let f = ap (λ (c : Answer). says_linked c) is in cc
     by false n a is e = ap handle_in is
 
 -- what holds of each kind of effect that can come of a call holds of its effect: a delivery is to a linked entry, a new entry has the next handle
@@ -324,19 +324,19 @@ module _ (x : Message) (b : Ledger) (v : View) (m : List ℕ) (r : Related b v m
           let same : message_of portal a payload y ≡ x = head-eq_of_cons-eq e in
           subst (λ (z : Message). Stands z (effect_heard b d answers) (memory_by m d)) same
           (stands-delivered b v m r portal a payload y i answers (ap manages_local same ∙ k))
-      by false e = absurd (nil≢cons e)
+      by false e = cc
 
   arrives : (size : ℕ) (answer : Answer) (c : Call) → AnswerRight size b (called c answer) → Arrives (answer ∷ []) (call_effect b.linked c answer)
   arrives size answer =
       effect-cases size b answer (Arrives (answer ∷ []))
-      (λ e. absurd (nil≢cons e))
+      (λ e. cc)
       (arrives-delivered (answer ∷ []))
-      (λ f handle n e. absurd (nil≢cons e))
-      (λ f e. absurd (nil≢cons e))
-      (λ handle e. absurd (nil≢cons e))
-      (λ f e. absurd (nil≢cons e))
-      (λ f e. absurd (nil≢cons e))
-      (λ k f e. absurd (nil≢cons e))
+      (λ f handle n e. cc)
+      (λ f e. cc)
+      (λ handle e. cc)
+      (λ f e. cc)
+      (λ f e. cc)
+      (λ k f e. cc)
 
 -- it stands as it arrives
 stands-arrive : (x : Message) (b : Ledger) (v : View) (m m' : List ℕ) (v' : View) (l : Line) → Related b v m → Follows b m l v' m'
@@ -349,8 +349,8 @@ stands-arrive x b v m m' v' l r f e k =
     by : (s : Step) → AnswerRight (length l.memory) b s → Leaves b m s m' → arrivals_of (effect_of b.linked s) ≡ x ∷ [] → Stands x (hear b s) m'
     by (called c answer) right leaves e =
         subst (Stands x (hear b (called c answer))) (sym leaves.0) (arrives x b v m r k (length l.memory) answer c right e)
-    by (elsewhere n answer) right leaves e = absurd (nil≢cons e)
-    by (wrote before after) right leaves e = absurd (nil≢cons e)
+    by (elsewhere n answer) right leaves e = cc
+    by (wrote before after) right leaves e = cc
 
 -- ## It stands after each step that does not disturb it
 

@@ -11,10 +11,13 @@ use Rattle.state.specs.Lists.{any, select}
 use Rattle.state.specs.View.{View, EventQueue, is_linked}
 use Rattle.state.specs.Registers.{register_at}
 use Rattle.state.proofs.ListLaws.{cond_cases, neither}
+use Rattle.portals.specs.Refusals.{Condition, unless_refused}
 use Rattle.portals.specs.Answers.{Answer, refused}
+use Rattle.portals.specs.Outcome.{Outcome, refusal, guarded}
 use Rattle.portals.specs.Calls.{Call, state_after, answer_to}
 use Rattle.portals.specs.Calls as calls
-use Rattle.claims.proofs.CallLaws.{call-laws}
+use Rattle.portals.proofs.GuardLaws.{guard-cases, unless-map}
+use Rattle.claims.proofs.CallLaws.{call_laws}
 use Rattle.conservation.specs.Steps.{called, count, event_in, events_read, says_linked, says_dropped, says_perm, says_op}
 use Rattle.conservation.specs.Ledger.{counters_after, Ledger, Effect, Fates, nothing, call_effect, linked_after, arrivals_of, waiting_after, hand_outs, issued_by, add_all, effect_heard}
 use Rattle.conservation.specs.Runs.{line}
@@ -69,17 +72,17 @@ pub record Kept (b : Ledger) (m : List ℕ) (c : Call) (a : Answer) (v' : View) 
   pub registers : (k : ℕ) → register_at v'.registers k ≡ register_of (b.heard ++ (a ∷ [])) k
   pub counters : v'.counters ≡ counters_after b d
   pub memory : m' ≡ memory_by m d
+  pub size : length m' ≡ length m
 
 module _ (b : Ledger) (v : View) (m : List ℕ) (r : Related b v m) where
   -- the state is sound and the memory has its size, by the laws of all calls
-  pub kept-follows : (c : Call) (m' : List ℕ) → length m' ≡ length m
-      → AnswerRight (length m) b (called c (answer_to v m c))
+  pub kept-follows : (c : Call) (m' : List ℕ) → AnswerRight (length m) b (called c (answer_to v m c))
       → Kept b m c (answer_to v m c) (state_after v m c) m'
       → Follows b m (line m c (answer_to v m c)) (state_after v m c) m'
-  kept-follows c m' size answer k = record {
+  kept-follows c m' answer k = record {
     related = subst (λ e. Related (effect_heard b e (answer_to v m c ∷ [])) (state_after v m c) m') (sym k.effect) (record {
-      is_sound = call-laws.sound v m c r.is_sound;
-      memory = size ∙ r.memory ∙ sym (call-laws.fixed v m c);
+      is_sound = call_laws.sound v m c r.is_sound;
+      memory = k.size ∙ r.memory ∙ sym (call_laws.fixed v m c);
       linked = k.linked;
       headers = k.messages.headers;
       homes = k.messages.homes;
@@ -117,6 +120,7 @@ module _ (b : Ledger) (v : View) (m : List ℕ) (r : Related b v m) where
     registers = λ k. r.registers k ∙ sym (same-register b.heard a p.unregistered k);
     counters = r.counters;
     memory = refl;
+    size = refl;
   }
 
   refused-effect : (c : Call) (why : Refusal) → call_effect b.linked c (refused why) ≡ nothing
@@ -137,3 +141,17 @@ module _ (b : Ledger) (v : View) (m : List ℕ) (r : Related b v m) where
   pub refused-kept : (c : Call) (why : Refusal) → Kept b m c (refused why) v m
   refused-kept c why =
       plain-kept c (refused why) (record { event = refl; handle = refl; unregistered = refl }) (refused-effect c why)
+
+  -- a call behind its tests: refused, or what it does. `left`: the memory after it, by the lent buffer as it is left
+  pub guarded-kept : {B : Type 0} (c : Call) (left : B → List ℕ) (lent : B) (tests : List Condition) (does : Outcome View B) → left lent ≡ m
+      → Kept b m c does.answer does.state (left does.buffer)
+      → Kept b m c (guarded v lent tests does).answer (guarded v lent tests does).state (left (guarded v lent tests does).buffer)
+  guarded-kept {B} c left lent tests does untouched k =
+      guard-cases (λ (o : Outcome View B). Kept b m c o.answer o.state (left o.buffer)) (refusal v lent) tests does
+      (λ why. subst (Kept b m c (refused why) v) (sym untouched) (refused-kept c why))
+      (λ passed. k)
+
+-- its answer is a refusal's, or what it answers
+pub guarded-answers : {B : Type 0} (v : View) (lent : B) (tests : List Condition) (does : Outcome View B)
+    → (guarded v lent tests does).answer ≡ unless_refused refused tests does.answer
+guarded-answers {B} v lent tests does = unless-map (λ (o : Outcome View B). o.answer) (refusal v lent) tests does

@@ -1,6 +1,6 @@
 -- What the ledger says of the answer of each call: its refusals, and what it answers if it is not refused.
 use Rattle.std.specs.Prelude.{◌≡◌, Bool, true, false, ◌||◌, ◌&&◌, not, cond, List, [], ◌∷◌, ℕ, ◌+◌, ◌%◌, ◌^◌, eqb, ltb, length}
-use Rattle.std.specs.Prelude.{Option, None, Some}
+use Rattle.std.specs.Prelude.{Option, None, Some, Result, Ok, Err}
 use Rattle.matching.specs.Refusals.{first_bad}
 use Rattle.matching.specs.Entry.{bad_entry_argument}
 use Rattle.matching.specs.Request.{bad_request_argument, arrival_of, accepted, offset_used, verdict_on, ack_asked, ack_given}
@@ -11,7 +11,7 @@ use Rattle.matching.specs.declared.refusals.Refusal.TheVariants as Refusal
 use Rattle.matching.specs.declared.refusals.BadArgument.{BadArgument}
 use Rattle.matching.specs.declared.request.Arrival.{Arrival}
 use Rattle.matching.specs.declared.request.Kind.{Kind}
-use Rattle.matching.specs.declared.request.Verdict.{Verdict}
+use Rattle.matching.specs.declared.request.Violation.{Violation}
 use Rattle.state.specs.Lists.{any, is_empty}
 use Rattle.state.specs.Sizes.{SLOTS, HEADERS, LAST_HANDLE}
 use Rattle.state.specs.Counters.{counter_at}
@@ -21,9 +21,9 @@ use Rattle.state.specs.declared.layout.HeldEntry.{HeldEntry}
 use Rattle.state.specs.declared.layout.Header.{Header}
 use Rattle.early.specs.Walk.{uses_once}
 use Rattle.portals.specs.Refusals.{Condition, good_arguments, unless_refused}
-use Rattle.portals.specs.Answers.{Answer, LINKED, TAKEN, DONE, SEARCHED, PRIORITY, OVERFLOW, DROPPED, PERM, OP, COUNTER, REGISTER, READY, NOT_READY, refused}
+use Rattle.portals.specs.Answers.{Answer, LINKED, TAKEN, DONE, SEARCHED, PRIORITY, OVERFLOW, DROPPED, PERM, OP, COUNTER, REGISTER, READY, NOT_READY, refused, reached_answer}
 use Rattle.portals.specs.EventRead.{oldest_of}
-use Rattle.portals.specs.CounterCalls.{counter_tests, is_ready, bad_poll_argument, reached_from, reached_answer, bad_register_argument}
+use Rattle.portals.specs.CounterCalls.{counter_tests, is_ready, bad_poll_argument, reached_from, bad_register_argument}
 use Rattle.portals.specs.Calls.{Call, append, unlink, search, put, get, read_event, set_counter, increment, read_counter, read_register, ready, poll}
 use Rattle.conservation.specs.Steps.{Step, called, elsewhere, wrote, count, events_read, says_linked, says_dropped, says_perm, says_op}
 use Rattle.conservation.specs.Ledger.{Ledger, chosen, search_walk, append_walk, still_queued, kept_without, headers_at}
@@ -42,7 +42,7 @@ abbrev pub space_for : Ledger → Bool
 space_for b = ltb (slots_taken b.linked (headers_at b b.waiting)) SLOTS && ltb (count says_linked b.heard) LAST_HANDLE
 
 -- "any handle not linked is ARG_INVALID"
-abbrev pub bad_handle : Ledger → ℕ → BadArgument
+abbrev pub bad_handle : Ledger → ℕ → Result Unit BadArgument
 bad_handle b handle = first_bad (record { passed = any (has_handle handle) b.linked; argument = BadArgument.Handle } ∷ [])
 
 -- what a call tests as it begins, in document 01's order, with a memory of this size. Put and get are lent this memory (no BAD_MEMORY),
@@ -75,11 +75,11 @@ expected_of_append b e =
 -- ## Put and get
 
 -- by rule 4's verdict on the chosen entry, and room for a header
-abbrev pub answer_of : HeldEntry → Arrival → ℕ → Verdict → Bool → Answer
-answer_of x a ack Verdict.PermissionViolation room = PERM (ack_asked a.kind ack)
-answer_of x a ack Verdict.OperationViolation room = OP (ack_asked a.kind ack)
-answer_of x a ack Verdict.Granted false = DROPPED (ack_asked a.kind ack)
-answer_of x a ack Verdict.Granted true =
+abbrev pub answer_of : HeldEntry → Arrival → ℕ → Result Unit Violation → Bool → Answer
+answer_of x a ack (Err Violation.Permission) room = PERM (ack_asked a.kind ack)
+answer_of x a ack (Err Violation.Operation) room = OP (ack_asked a.kind ack)
+answer_of x a ack (Ok granted) false = DROPPED (ack_asked a.kind ack)
+answer_of x a ack (Ok granted) true =
     cond (eqb x.entry.list 0)
     (PRIORITY (accepted x.entry x.local a) (offset_used x.entry x.local a) (ack_given x.entry.options a.kind ack))
     (OVERFLOW (accepted x.entry x.local a) (offset_used x.entry x.local a) (ack_given x.entry.options a.kind ack))

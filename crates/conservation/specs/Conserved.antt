@@ -1,5 +1,6 @@
 -- Demand 3: "Early messages are conserved, for every list of these calls from a new target, refused ones included".
-use Rattle.std.specs.Prelude.{◌≡◌, Bool, true, ◌||◌, ◌&&◌, cond, List, [], ◌∷◌, ◌++◌, map, ℕ, ◌+◌, ◌≤◌, eqb, ltb, length}
+use Rattle.std.specs.Prelude.{◌≡◌, Bool, true, ◌||◌, ◌&&◌, cond, List, [], ◌∷◌, ◌++◌, map, ℕ, ◌+◌, ◌≤◌, eqb, ltb, length, Result}
+use Rattle.matching.specs.declared.refusals.Refusal.{Refusal}
 use Rattle.matching.specs.declared.events.EventKind.TheVariants as EventKind
 use Rattle.state.specs.Lists.{select}
 use Rattle.matching.specs.Kinds.{event_number}
@@ -13,7 +14,7 @@ use Rattle.state.specs.declared.layout.Event.{Event}
 use Rattle.state.specs.declared.layout.Settings.{Settings}
 use Rattle.state.specs.declared.layout.Target.{Target}
 use Rattle.portals.specs.Promises.{NewMet}
-use Rattle.portals.specs.declared.answers.NewDone.{NewDone}
+use Rattle.portals.specs.declared.answers.Done.{Done}
 use Rattle.conservation.specs.Steps.{count, says_linked, events_read}
 use Rattle.conservation.specs.Ledger.{Message, Ledger, Effect, nothing, delivery, link, taken, remove, look, delete, change, empty, hear, effect_of, message_at, header_at, headers_at, hand_outs, issued_by, queued_of}
 use Rattle.conservation.specs.Runs.{Line, Ran}
@@ -131,7 +132,7 @@ pub record Conserved (start : List ℕ) (log : List Line) (t : Target) (m : List
 -- list, so the claim holds after each of its steps
 abbrev pub Conservation : Type 0
 Conservation =
-    (s : Settings) (new : NewDone) (start : List ℕ) (log : List Line) (t : Target) (m : List ℕ)
+    (s : Settings) (new : Done (Result Unit Refusal)) (start : List ℕ) (log : List Line) (t : Target) (m : List ℕ)
     → NewMet s new
     → length start ≡ (view_of new.target).size
     → Ran new.target start log t m

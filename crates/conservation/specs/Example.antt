@@ -1,13 +1,14 @@
 -- A list of calls that were run: the first three of document 01's worked listing, with a write of the host in between. Its message waits in
 -- an entry that manages its own offset, is undisturbed, and is handed out: neither the hand-out nor the bytes clause is empty.
-use Rattle.std.specs.Prelude.{◌≡◌, true, List, [], ◌∷◌, ◌++◌, ℕ, replicate, set}
+use Rattle.std.specs.Prelude.{◌≡◌, true, List, [], ◌∷◌, ◌++◌, ℕ, replicate, set, Result}
+use Rattle.matching.specs.declared.refusals.Refusal.{Refusal}
 use Rattle.matching.specs.Entry.{ANY}
 use Rattle.matching.specs.declared.layout.Entry.{Entry}
 use Rattle.portals.specs.Answers.{LINKED, TAKEN, OVERFLOW}
 use Rattle.claims.specs.BenchCases.{entry_of, entry_with, request_of}
 use Rattle.portals.specs.Promises.{NewMet}
 use Rattle.portals.specs.Calls.{append, put}
-use Rattle.portals.specs.declared.answers.NewDone.{NewDone}
+use Rattle.portals.specs.declared.answers.Done.{Done}
 use Rattle.conservation.specs.Steps.{wrote}
 use Rattle.conservation.specs.Ledger.{Message, message_at}
 use Rattle.conservation.specs.Runs.{Line, line, Ran}
@@ -55,7 +56,7 @@ abbrev pub abc : Message
 abc = message_at (ledger_of log).arrivals 0
 
 pub record Example (r : Left) : Type 0 where
-  pub new : NewDone
+  pub new : Done (Result Unit Refusal)
   pub made : NewMet (record { size = 16 }) new
   -- the calls were run, with these answers
   pub ran : Ran new.target zeros log r.target r.memory

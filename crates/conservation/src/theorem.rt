@@ -6,8 +6,9 @@ pub fn conservation()
     ensures { Conservation }
 {}
 
-// The impostors of document 01: lists of calls with wrong answers or a wrong memory, which the claim of the theorem refuses whatever the
-// target holds.
+// The impostors of document 01: lists of calls with wrong answers or a wrong memory, which the claim of the theorem refuses
+// whatever the target holds.
+#[tactic(auto, using(crate::proofs::ImpostorLaws::impostors_refused))]
 pub fn impostors_refused()
     ensures { ImpostorsRefused }
 {}
