@@ -106,13 +106,6 @@ module _ (t : Target) where
 
 -- ## What the tests say
 
--- an argument is bad, or none is
-pub bad-tested : (tested : Result Unit BadArgument) (bad : BadArgument) → tested ≡ Err bad → none_bad tested ≡ false
-bad-tested tested bad e = ap none_bad e
-
-pub good-tested : (tested : Result Unit BadArgument) → tested ≡ Ok tt → none_bad tested ≡ true
-good-tested tested e = ap none_bad e
-
 -- a call on a counter that was admitted has one
 pub counter-inside : (k : ℕ) (t : Target) → Ok tt ≡ admission (λ v. counter_tests k) t → k < COUNTERS
 counter-inside k t e =

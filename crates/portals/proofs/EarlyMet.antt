@@ -2,26 +2,18 @@
 -- headers found says.
 use Rattle.std.specs.Prelude.{Result, Ok}
 use mathlib.Core.Path.{◌≡◌, refl, ap, sym, ◌∙◌}
-use mathlib.Core.Bool.{Bool, true, false, cond}
+use mathlib.Core.Bool.{Bool, true, false}
 use mathlib.Core.List.{[], ◌∷◌}
-use Prim.Native.Nat.{ℕ, ◌<◌, ◌≤◌}
-use native.Mathlib.Omega.{arith}
-use borrow.Author.Tests.{ltb-true}
-use lib.Dec.{eqb, ltb}
-use lib.ListN.{length}
 use Rattle.matching.specs.Entry.{bad_entry_argument}
 use Rattle.matching.specs.declared.layout.Entry.{Entry}
 use Rattle.matching.specs.declared.refusals.Refusal.{Refusal}
-use Rattle.state.specs.Sizes.{SLOTS, HEADERS, LAST_HANDLE}
-use Rattle.state.specs.View.{View, view_of, entries_of, headers_of}
-use Rattle.state.specs.Parts.{TargetFits}
+use Rattle.state.specs.View.{View, view_of, headers_of}
 use Rattle.state.specs.declared.layout.Header.{Header}
 use Rattle.state.specs.declared.layout.Target.{Target}
-use Rattle.state.proofs.ListLaws.{both}
-use Rattle.state.proofs.SlotLaws.{in_use, held-count}
+use Rattle.state.proofs.SlotLaws.{held-count}
 use Rattle.early.specs.Walk.{Walk, walk_for, walk_if, found_once}
 use Rattle.early.specs.Handling.{handled}
-use Rattle.early.specs.Parts.{walk_of, WalkHolds, RoomFor, TargetAllows, TargetAfter}
+use Rattle.early.specs.Parts.{walk_of, WalkHolds, TargetAllows, TargetAfter}
 use Rattle.early.specs.declared.walk.Walked.{Walked}
 use Rattle.early.specs.declared.handling.Handling.{Handling}
 use Rattle.early.proofs.AfterLaws.{walk-view, walk-allows, after-view, after-fits}
@@ -31,37 +23,11 @@ use Rattle.portals.specs.Answers.{Answer, SEARCHED, is_refused, appended_as}
 use Rattle.portals.specs.Outcome.{Outcome}
 use Rattle.portals.specs.EarlyMessages.{taken_by, next_handle, append_by, appended, append_tests, append, search_handling, searched, search_tests, search, taken_or_linked, append_handling}
 use Rattle.portals.specs.Promises.{Met}
-use Rattle.portals.proofs.AdmitLaws.{admitted-sound, admitted-passed}
+use Rattle.portals.proofs.AdmitLaws.{admitted-sound}
 use Rattle.portals.proofs.EarlyKept.{append-sound, search-sound}
 use Rattle.portals.proofs.MetLaws.{fits-counts, Done, Guarded, done-kept}
 
 -- ## What the functions below ask
-
--- as many headers wait as there is room for
-pub waiting-fits : (t : Target) → TargetFits t → length (headers_of t.unexpected) ≤ HEADERS
-waiting-fits t f =
-    let n : length (headers_of t.unexpected) ≡ t.unexpected.count = in_use f.unexpected in
-    let room : t.unexpected.count ≤ HEADERS = f.unexpected.room in
-    omega arith
-
-module _ (t : Target) (e : Entry) (admits : Admits (λ v. append_tests v e) t (Ok tt)) where
-  -- an admitted append finds a slot and a handle
-  pub handle-left : t.last < LAST_HANDLE
-  handle-left =
-      ltb-true t.last LAST_HANDLE
-      (both (ltb (length (entries_of t.entries)) SLOTS) (ltb t.last LAST_HANDLE) (admitted-passed t (λ v. append_tests v e) admits.answer).1.0).1
-
-  slot-left : t.entries.count < SLOTS
-  slot-left =
-      let free : length (entries_of t.entries) < SLOTS =
-      ltb-true (length (entries_of t.entries)) SLOTS
-      (both (ltb (length (entries_of t.entries)) SLOTS) (ltb t.last LAST_HANDLE) (admitted-passed t (λ v. append_tests v e) admits.answer).1.0).0 in
-      let n : length (entries_of t.entries) ≡ t.entries.count = in_use (admits.fits refl).entries in
-      omega arith
-
-  pub room-left : (taken : Bool) → RoomFor (append_handling (taken_or_linked taken t.last)) t.entries
-  room-left true = tt
-  room-left false = slot-left
 
 -- a sound target and its walk are as is asked
 pub walked-allows : (tests : View → _) (t : Target) (walks : Bool) (e : Entry) (w : Walked)
@@ -115,13 +81,6 @@ module _ (t t' : Target) (e : Entry) (w : Walked) where
       (rw (← found) (append-by-done v taken walks after))
 
 -- ## Search
-
-pub search-room : (mode : ℕ) (t : Target) → RoomFor (search_handling mode) t.entries
-search-room mode t = by (eqb mode 0)
-  where
-    by : (look : Bool) → RoomFor (cond look Handling.Look Handling.Delete) t.entries
-    by true = tt
-    by false = tt
 
 pub search-guarded : (e : Entry) → Guarded (λ v. search v e) (λ v. searched v e (walk_for e v.headers)) (λ v. search_tests v e) tt
 unfolding search

@@ -1,34 +1,15 @@
 -- The loops of a poll: what the definition says of the whole lists is what it says of the rest from place i on.
 use mathlib.Core.Path.{◌≡◌}
-use mathlib.Core.Bool.{true, false}
 use mathlib.Core.List.{List}
 use Rattle.std.specs.Prelude.{None, Some}
 use Prim.Native.Nat.{ℕ, ◌+◌, ◌≤◌, ◌<◌}
 use native.Mathlib.Numerals.{add-one}
-use borrow.Author.Tests.{lt-ltb, le-ltb, le-leb, lt-leb}
+use borrow.Author.Tests.{le-leb, lt-leb}
 use lib.ListN.{length, drop, get_or, drop_of_length-le}
 use lib.Seq.{drop-cons}
-use Rattle.matching.specs.Entry.{is_counter}
 use Rattle.state.specs.Counters.{counter_at}
-use Rattle.state.specs.Lists.{every}
-use Rattle.state.specs.Sizes.{COUNTERS}
 use Rattle.state.specs.declared.layout.Counter.{Counter}
 use Rattle.portals.specs.CounterCalls.{reached_from}
-
--- ## Every counter of the list is one
-
-module _ (ks : List ℕ) (i : ℕ) where
-  -- the one at i is
-  pub counters-more : i < length ks → get_or ks i 0 < COUNTERS → every is_counter (drop i ks) ≡ every is_counter (drop (i + 1) ks)
-  counters-more h good = rw (add-one, drop-cons ks i 0, lt-ltb (get_or ks i 0) COUNTERS good)
-
-  -- it is not
-  pub counters-bad : i < length ks → COUNTERS ≤ get_or ks i 0 → every is_counter (drop i ks) ≡ false
-  counters-bad h bad = rw (drop-cons ks i 0, le-ltb (get_or ks i 0) COUNTERS bad)
-
-  -- none is left
-  pub counters-end : length ks ≤ i → every is_counter (drop i ks) ≡ true
-  counters-end h = rw (drop_of_length-le ks h)
 
 -- ## The lowest place that has reached its test
 
