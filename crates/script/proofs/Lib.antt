@@ -1,3 +1,3 @@
-pub mod ZeroLaws
 pub mod RunLaws
+pub mod ZeroLaws
 pub mod ReplayLaws

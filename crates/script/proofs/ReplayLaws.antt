@@ -8,6 +8,7 @@ use borrow.Author.Tests.{le-leb}
 use lib.ListN.{length, take, drop, replicate, length-drop, length-append, length-replicate}
 use lib.Seq.{take-length, take_at, drop_at, drop-drop}
 use Rattle.std.specs.Prelude.{Some, Result, Ok, Err}
+use Rattle.matching.specs.declared.refusals.Refusal.{Refusal}
 use Rattle.state.specs.Sizes.{MEMORY}
 use Rattle.state.specs.View.{view_of}
 use Rattle.state.specs.Soundness.{seen}
@@ -16,7 +17,7 @@ use Rattle.state.specs.declared.layout.Target.{Target}
 use Rattle.portals.specs.Calls.{Call}
 use Rattle.portals.specs.Making as making
 use Rattle.portals.specs.Promises.{NewMet}
-use Rattle.portals.specs.declared.answers.NewDone.{NewDone}
+use Rattle.portals.specs.declared.answers.Done.{Done}
 use Rattle.conservation.specs.Runs as runs
 use Rattle.conservation.proofs.EveryList.{conservation}
 use Rattle.text.specs.Text.{bytes_of, fields_of}
@@ -69,7 +70,7 @@ memory-small s head is good = subst (λ (h : Head). h.memory ≤ SCRIPT_MEMORY) 
 
 -- A script's run as far as here: a run of the calls that are left makes it whole.
 pub record Underway (s : List ℕ) (left : List runs.Line) (t : Target) (memory : List ℕ) : Type 0 where
-  pub new : NewDone
+  pub new : Done (Result Unit Refusal)
   pub made : NewMet (record { size = (head_of s).memory }) new
   pub whole : (t' : Target) (memory' : List ℕ)
       → runs.Ran t memory left t' memory'
@@ -125,7 +126,7 @@ pub record Going (s : List ℕ) (count k : ℕ) (done : Report) (t : Target) (me
   pub run : Underway s (log_from (calls_from s (count - k) k) (seen t) memory) t memory
 
 pub going-begins :
-    (s : List ℕ) (head : Head) (begun : Report) (made : NewDone) (memory : List ℕ)
+    (s : List ℕ) (head : Head) (begun : Report) (made : Done (Result Unit Refusal)) (memory : List ℕ)
     → head ≡ head_of s
     → verdict_of s ≡ Ok tt
     → begun.bytes ≡ 0

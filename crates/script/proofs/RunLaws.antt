@@ -8,12 +8,11 @@ use Rattle.matching.specs.declared.layout.Request.{Request}
 use Rattle.state.specs.View.{View}
 use Rattle.state.specs.Soundness.{Seen, sound, unsound, seen}
 use Rattle.state.specs.declared.layout.Target.{Target}
-use Rattle.portals.specs.Answers.{Answer, request_answer}
+use Rattle.portals.specs.Answers.{Answer}
 use Rattle.portals.specs.Outcome.{Outcome, unless_unsound, read_unless_unsound}
 use Rattle.portals.specs.Request as request
-use Rattle.portals.specs.Calls.{Call, put, get}
-use Rattle.portals.specs.Promises.{Met, ReadMet, PutMet, GetMet}
-use Rattle.portals.specs.declared.answers.RequestDone.{RequestDone}
+use Rattle.portals.specs.Calls.{Call, get}
+use Rattle.portals.specs.Promises.{Met, ReadMet}
 use Rattle.conservation.specs.Runs as runs
 use Rattle.text.specs.Text.{bytes_of}
 use Rattle.text.specs.Writing.{Wrote}
@@ -24,20 +23,9 @@ use Rattle.reader.specs.declared.calls.Call as script
 use Rattle.printer.specs.Said.{SAID, said, shown_of}
 use Rattle.script.specs.Run.{asked, Called, called}
 use Rattle.script.specs.Printout.{line_of}
-use Rattle.script.specs.Promises.{TEXT, CallRan, RanOn, LineRan}
+use Rattle.script.specs.Promises.{TEXT, CallRan, LineRan}
 
 -- ## A call, by the outcome that its promise gives
-
--- of a call that is not lent the memory, of a put, and of a get
-abbrev leaving : List ℕ → Outcome Seen Unit → Called
-leaving memory o = record { answer = o.answer; shown = []; state = o.state; memory = memory }
-
-abbrev storing : Outcome Seen (List ℕ) → Called
-storing o = record { answer = o.answer; shown = []; state = o.state; memory = o.buffer }
-
-abbrev showing : List ℕ → Outcome Seen (List ℕ) → Called
-showing memory o =
-    record { answer = o.answer; shown = shown_of o.answer o.buffer; state = o.state; memory = memory }
 
 -- a line that shows nothing behind its answer
 said-alone : {w w' : Writer} (k : ℕ) (a : Answer) → Wrote w (said k a) SAID w' → Wrote w (said k a ++ []) TEXT w'
@@ -47,116 +35,83 @@ said-alone k a p =
 
 -- a step by a call that gave this answer, and showed these bytes behind it
 ran-as :
-    (c : Call) (t : Target) (m : List ℕ) (k : ℕ) (w : Writer) (t' : Target) (m' : List ℕ) (w' : Writer) (answer : Answer) (shown : List ℕ)
+    {c : Call} {t t' : Target} {m m' : List ℕ} {k : ℕ} {w w' : Writer} {answer : Answer} {shown : List ℕ}
     → ◌≡◌ {A = Called} (record { answer = answer; shown = shown; state = seen t'; memory = m' }) (called c (seen t) m)
     → runs.Stepped t m (runs.line m c answer) t' m'
     → Wrote w (said k answer ++ shown) TEXT w'
     → CallRan c t m k w t' m' w'
-ran-as c t m k w t' m' w' answer shown is s p = record {
+ran-as {c} {t} {t'} {m} {m'} {k} {w} {w'} is s p = record {
   step = subst (λ (z : Called). runs.Stepped t m (runs.line m c z.answer) t' m') is s;
   state = ap (λ (z : Called). z.state) is;
   memory = ap (λ (z : Called). z.memory) is;
   line = subst (λ (z : Called). Wrote w (said k z.answer ++ z.shown) TEXT w') is p;
 }
 
-module _ (c : Call) (t : Target) (k : ℕ) (w w' : Writer) (answer : Answer) where
-  -- a call that is not lent the memory
+-- A call of a script that shows nothing behind its answer: what it is lent, and so what it leaves, holds the memory.
+module _ {B : Type 0} (memory : B → List ℕ) where
+  abbrev pub leaving : Outcome Seen B → Called
+  leaving o = record { answer = o.answer; shown = []; state = o.state; memory = memory o.buffer }
+
   pub ran :
-      (call : View → Outcome View Unit) (t' : Target)
-      → ((v : View) (m : List ℕ) → leaving m (unless_unsound call (sound v) tt) ≡ called c (sound v) m)
-      → Met call t tt answer t' tt
-      → ((m : List ℕ) → runs.Stepped t m (runs.line m c answer) t' m)
+      (s : List ℕ) {call known : script.Call} {does : View → Outcome View B} {t t' : Target} {lent left : B} {k : ℕ} {w w' : Writer}
+      {answer : Answer}
+      → call ≡ known
+      → ((v : View) → leaving (unless_unsound does (sound v) lent) ≡ called (asked s known) (sound v) (memory lent))
+      → Met does t lent answer t' left
+      → runs.Stepped t (memory lent) (runs.line (memory lent) (asked s known) answer) t' (memory left)
       → Wrote w (said k answer) SAID w'
-      → RanOn c t k w t' w'
-  ran call t' is met step p = record {
-    on = λ m.
-        ran-as c t m k w t' m w' answer []
-        (ap (λ (o : Outcome Seen Unit). leaving m o) met.outcome ∙ same (seen t) m)
-        (step m) (said-alone k answer p);
-  }
+      → CallRan (asked s call) t (memory lent) k w t' (memory left) w'
+  ran s {call} {known} {does} {t} {t'} {lent} {left} {k} {w} {w'} {answer} e is met step p =
+      subst (λ (x : script.Call). CallRan (asked s x) t (memory lent) k w t' (memory left) w') (sym e)
+      (ran-as (ap leaving met.outcome ∙ same (seen t)) step (said-alone k answer p))
     where
-      same : (x : Seen) (m : List ℕ) → leaving m (unless_unsound call x tt) ≡ called c x m
-      same (sound v) m = is v m
-      same (unsound t) m = refl
+      same : (x : Seen) → leaving (unless_unsound does x lent) ≡ called (asked s known) x (memory lent)
+      same (sound v) = is v
+      same (unsound u) = refl
 
-  -- a call that only reads
-  pub read-ran :
-      (call : View → Answer)
-      → ((v : View) (m : List ℕ) → leaving m (record { answer = call v; state = sound v; buffer = tt }) ≡ called c (sound v) m)
-      → ReadMet call t answer
-      → ((m : List ℕ) → runs.Stepped t m (runs.line m c answer) t m)
-      → Wrote w (said k answer) SAID w'
-      → RanOn c t k w t w'
-  read-ran call is met step p = record {
-    on = λ m.
-        ran-as c t m k w t m w' answer []
-        (ap (λ (a : Answer). leaving m (read a (seen t))) met.outcome ∙ same (seen t) m)
-        (step m) (said-alone k answer p);
-  }
-    where
-      read : Answer → Seen → Outcome Seen Unit
-      read a x = record { answer = a; state = x; buffer = tt }
+-- a call that only reads leaves all as it is
+pub reads : {call : View → Answer} {t : Target} {answer : Answer} → ReadMet call t answer
+    → Met (λ v. record { answer = call v; state = v; buffer = tt {0} }) t (tt {0}) answer t (tt {0})
+reads {call} {t} {answer} met = record {
+  outcome = ap read met.outcome ∙ same (seen t);
+  unchanged = λ e. refl;
+}
+  where
+    read : Answer → Outcome Seen Unit
+    read a = record { answer = a; state = seen t; buffer = tt {0} }
 
-      same : (x : Seen) (m : List ℕ) → leaving m (read (read_unless_unsound call x) x) ≡ called c x m
-      same (sound v) m = is v m
-      same (unsound t) m = refl
+    same : (x : Seen) →
+        ◌≡◌ {A = Outcome Seen Unit} (record { answer = read_unless_unsound call x; state = x; buffer = tt {0} })
+        (unless_unsound (λ v. record { answer = call v; state = v; buffer = tt {0} }) x (tt {0}))
+    same (sound v) = refl
+    same (unsound u) = refl
 
-module _ (t : Target) (m : List ℕ) (q : Request) (k : ℕ) (w : Writer) (d : RequestDone) (w' : Writer) where
-  pub put-ran :
-      (payload m' : List ℕ)
-      → PutMet t m q payload d m'
-      → Wrote w (said k (request_answer d.answer)) SAID w'
-      → CallRan (put q payload) t m k w d.target m' w'
-  put-ran payload m' met p =
-      ran-as (put q payload) t m k w d.target m' w' (request_answer d.answer) []
-      (ap storing met.outcome ∙ by-seen (seen t))
-      (runs.put d met) (said-alone k (request_answer d.answer) p)
-    where
-      by-seen : (x : Seen) → storing (unless_unsound (λ v. request.put v m q payload) x m) ≡ called (put q payload) x m
-      by-seen (sound v) = refl
-      by-seen (unsound t) = refl
+-- a get: its bytes follow what is said
+pub get-ran :
+    {t t' : Target} {m : List ℕ} {q : Request} {reply reply' : List ℕ} {k : ℕ} {w between w' : Writer} {answer : Answer}
+    → Met (λ v. request.get v m q reply) t reply answer t' reply'
+    → runs.Stepped t m (runs.line m (get q reply) answer) t' m
+    → length reply' ≤ SCRIPT_MEMORY
+    → Wrote w (said k answer) SAID between
+    → Wrote between (shown_of answer reply') (2 + 2 * length reply') w'
+    → CallRan (get q reply) t m k w t' m w'
+get-ran {t} {t'} {m} {q} {reply} met step small p shows =
+    ran-as (ap showing met.outcome ∙ same (seen t)) step (shorter (omega (arith, small)) (and_then p shows))
+  where
+    showing : Outcome Seen (List ℕ) → Called
+    showing o = record { answer = o.answer; shown = shown_of o.answer o.buffer; state = o.state; memory = m }
 
-  -- a get: its bytes follow what is said
-  pub get-ran :
-      (reply reply' : List ℕ) (between : Writer) (size : ℕ)
-      → GetMet t m q reply d reply'
-      → size ≤ SCRIPT_MEMORY
-      → Wrote w (said k (request_answer d.answer)) SAID between
-      → Wrote between (shown_of (request_answer d.answer) reply') (2 + 2 * size) w'
-      → CallRan (get q reply) t m k w d.target m w'
-  get-ran reply reply' between size met small p shows =
-      ran-as (get q reply) t m k w d.target m w' (request_answer d.answer)
-      (shown_of (request_answer d.answer) reply')
-      (ap (λ (o : Outcome Seen (List ℕ)). showing m o) met.outcome ∙ by-seen (seen t))
-      (runs.get d met) (shorter (omega arith) (and_then p shows))
-    where
-      by-seen : (x : Seen) → showing m (unless_unsound (λ v. request.get v m q reply) x reply) ≡ called (get q reply) x m
-      by-seen (sound v) = refl
-      by-seen (unsound t) = refl
-
--- ## The call of a line
-
--- a call that is known, and is not lent the memory
-pub known_ran :
-    (s : List ℕ) (call known : script.Call) (t : Target) (m : List ℕ) (k : ℕ) (w : Writer) (t' : Target) (w' : Writer)
-    → call ≡ known
-    → RanOn (asked s known) t k w t' w'
-    → CallRan (asked s call) t m k w t' m w'
-known_ran s call known t m k w t' w' e p =
-    subst (λ (x : script.Call). CallRan (asked s x) t m k w t' m w') (sym e) (p.on m)
+    same : (x : Seen) → showing (unless_unsound (λ v. request.get v m q reply) x reply) ≡ called (get q reply) x m
+    same (sound v) = refl
+    same (unsound u) = refl
 
 -- ## The line
 
 -- with the newline behind it
 pub line-ran :
-    (c : Call) (t : Target) (m : List ℕ) (k : ℕ) (w between : Writer) (t' : Target) (m' : List ℕ) (w' : Writer)
+    {c : Call} {t t' : Target} {m m' : List ℕ} {k : ℕ} {w between w' : Writer}
     → CallRan c t m k w t' m' between
     → Wrote between (bytes_of "\n") 1 w'
     → LineRan c t m k w t' m' w'
 unfolding line_of
-line-ran c t m k w between t' m' w' p newline = record {
-  step = p.step;
-  state = p.state;
-  memory = p.memory;
-  line = and_then p.line newline;
-}
+line-ran p newline = record { step = p.step; state = p.state; memory = p.memory; line = and_then p.line newline }

@@ -1,10 +1,11 @@
 -- What the functions that run a script promise.
-use Rattle.std.specs.Prelude.{ℕ, ◌+◌, ◌*◌, ◌≤◌, ◌≡◌, List, ◌++◌, Ok, length, take, drop, replicate}
+use Rattle.std.specs.Prelude.{ℕ, ◌+◌, ◌*◌, ◌≤◌, ◌≡◌, List, ◌++◌, Result, Ok, length, take, drop, replicate}
+use Rattle.matching.specs.declared.refusals.Refusal.{Refusal}
 use Rattle.state.specs.Soundness.{seen}
 use Rattle.state.specs.declared.layout.Target.{Target}
 use Rattle.portals.specs.Calls.{Call}
 use Rattle.portals.specs.Promises.{NewMet}
-use Rattle.portals.specs.declared.answers.NewDone.{NewDone}
+use Rattle.portals.specs.declared.answers.Done.{Done}
 use Rattle.conservation.specs.Runs as runs
 use Rattle.conservation.specs.Conserved.{Conserved}
 use Rattle.text.specs.Writing.{Wrote}
@@ -42,10 +43,6 @@ pub record CallRan (c : Call) (t : Target) (m : List ℕ) (k : ℕ) (w : Writer)
   pub memory : m' ≡ (called c (seen t) m).memory
   pub line : Wrote w (said k (called c (seen t) m).answer ++ (called c (seen t) m).shown) TEXT w'
 
--- a call that is not lent the memory: what holds on every memory, which it leaves
-pub record RanOn (c : Call) (t : Target) (k : ℕ) (w : Writer) (t' : Target) (w' : Writer) : Type 0 where
-  pub on : (m : List ℕ) → CallRan c t m k w t' m w'
-
 -- a call with its whole line in the buffer
 pub record LineRan (c : Call) (t : Target) (m : List ℕ) (k : ℕ) (w : Writer) (t' : Target) (m' : List ℕ) (w' : Writer) : Type 0 where
   pub step : runs.Stepped t m (logged c (seen t) m) t' m'
@@ -65,7 +62,7 @@ pub record Next (script : List ℕ) (done : Report) (bytes : List ℕ) : Type 0 
 -- A good script was run: its calls, each with the answer that is printed, are a run from a new target on a memory of zeros, and early
 -- messages are conserved in it.
 pub record RunOf (s : List ℕ) : Type 0 where
-  pub new : NewDone
+  pub new : Done (Result Unit Refusal)
   pub target : Target
   pub memory : List ℕ
   pub made : NewMet (record { size = (head_of s).memory }) new

@@ -7,11 +7,11 @@ ghost use Rattle.script.specs.Printout.{printout_of};
 ghost use Rattle.script.specs.Promises.{LINE, Next, Replayed};
 
 use crate::run;
-use portals::making;
+use host::lent;
 use reader::judging::BadScript;
 use reader::reading::Reader;
 use reader::{calls, contents, judging};
-use state::layout::Settings;
+use state::layout::{Settings, Target};
 use std::io::Stdout;
 use text::writing::Writer;
 
@@ -86,7 +86,8 @@ fn run_lines(
     ensures { Replayed script.now result }
 {
     let head = contents::head_of(script);
-    let mut t = making::new(Settings { size: head.memory }).target;
+    let mut t = Target::empty(0);
+    let _ = lent::new(&mut t, Settings { size: head.memory });
     let mut reader = Reader::open(script);
     let mut done = begun;
     for k in 0..head.count as usize {
@@ -95,7 +96,7 @@ fn run_lines(
         };
         let call = calls::call_of(script, line);
         let mut w = Writer::new(out);
-        t = run::run_line(t, memory, script, call, k, &mut w);
+        run::run_line(&mut t, memory, script, call, k, &mut w);
         done = write_next(stdout, script, done, w.written());
     }
     done

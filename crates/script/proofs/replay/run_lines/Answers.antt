@@ -41,7 +41,7 @@ write_next-done-requires c =
     let is : line_at s l.k ≡ Some c.in-Some.line = cc (c.read_line.ensures.line, c.in-Some.is, l.invariant.0, l.invariant.1.0) in
     going_next s _ l.k l.done l.t l.memory l.invariant.1.1 _ c.loop-k-test.true
     (called_at s l.k c.in-Some.line c.call_of-call.result is c.call_of-call.ensures.call) _ _ _ _ c.new-w.ensures.start
-    c.run_line-t.ensures _ c.written.ensures
+    c.run_line.ensures _ c.written.ensures
 
 pub loop-k-preserved : goal.loop-k-preserved
 loop-k-preserved c =
@@ -51,7 +51,7 @@ loop-k-preserved c =
     let on =
     going_on s _ l.k l.done l.t l.memory l.invariant.1.1 _ c.loop-k-test.true
     (called_at s l.k c.in-Some.line c.call_of-call.result is c.call_of-call.ensures.call) _ _ _ _ c.new-w.ensures.start
-    c.run_line-t.ensures _ c.written.ensures c.write_next-done.result c.write_next-done.ensures in
+    c.run_line.ensures _ c.written.ensures c.write_next-done.result c.write_next-done.ensures in
     let few : l.k < CALLS = omega (arith, c.loop-k-test.true, l.invariant.1.1.few) in
     (cc, (cc (c.read_line.ensures.place, l.invariant.1.0, place_next l.k few), on))
 

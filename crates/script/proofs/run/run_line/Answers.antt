@@ -2,4 +2,4 @@ use Rattle.script.proofs.RunLaws.{line-ran}
 use Rattle.script.proofs.run.run_line.Goals as goal
 
 pub returns : goal.returns
-returns c = line-ran _ _ _ _ _ _ _ _ _ c.run_call-target.ensures c.put_byte.ensures
+returns c = line-ran c.run_call.ensures c.put_byte.ensures
