@@ -8,6 +8,7 @@ use borrow.Author.Tests.{le-leb}
 use lib.ListN.{length, take, drop, replicate, length-drop, length-append, length-replicate}
 use lib.Seq.{take-length, take_at, drop_at, drop-drop}
 use Rattle.std.specs.Prelude.{Some, Result, Ok, Err}
+use Rattle.std.proofs.lemmas.List.{take-replicate}
 use Rattle.matching.specs.declared.refusals.Refusal.{Refusal}
 use Rattle.state.specs.Sizes.{MEMORY}
 use Rattle.state.specs.View.{view_of}
@@ -20,7 +21,6 @@ use Rattle.portals.specs.Promises.{NewMet}
 use Rattle.portals.specs.declared.answers.Done.{Done}
 use Rattle.conservation.specs.Runs as runs
 use Rattle.conservation.proofs.EveryList.{conservation}
-use Rattle.text.specs.Text.{bytes_of, fields_of}
 use Rattle.text.specs.Writing.{Wrote}
 use Rattle.text.specs.declared.writing.Writer.{Writer}
 use Rattle.reader.specs.Contents.{CALLS, head_of, line_at}
@@ -62,9 +62,12 @@ none_left p n left inside =
 
 -- ## The memory
 
--- a good script's memory is a part of 16,384 bytes
-pub memory-small : (s : List ℕ) (head : Head) → head ≡ head_of s → verdict_of s ≡ Ok tt → head.memory ≤ SCRIPT_MEMORY
-memory-small s head is good = subst (λ (h : Head). h.memory ≤ SCRIPT_MEMORY) (sym is) (good_script_head s good).small
+-- a good script's memory is a part of 16,384 zero bytes
+pub good-memory : (s : List ℕ) (head : Head) (zeros : List ℕ) → head ≡ head_of s → verdict_of s ≡ Ok tt → zeros ≡ replicate SCRIPT_MEMORY 0
+    → (head.memory ≤ length zeros) × (take head.memory zeros ≡ replicate (head_of s).memory 0)
+good-memory s head zeros is good all =
+    let small = (good_script_head s good).small in
+    (rw (is, all, length-replicate {A = ℕ} SCRIPT_MEMORY 0) small, rw (is, all) (take-replicate (head_of s).memory SCRIPT_MEMORY 0 small))
 
 -- ## The run
 
@@ -149,6 +152,10 @@ going-begins s head begun made memory is good none met zeros =
       };
     }
 
+-- what was written into a buffer from its start
+pub from_start : {w w' : Writer} {text bytes : List ℕ} {most : ℕ} → w.at ≡ 0 → Wrote w text most w' → bytes ≡ take w'.at w'.out.now → bytes ≡ text
+from_start start wrote written = written ∙ wrote.front ∙ rw start refl
+
 -- `bytes`: the line of call k, which was written
 module _
     (s : List ℕ) (count k : ℕ) (done : Report) (t : Target) (memory : List ℕ) (g : Going s count k done t memory)
@@ -156,7 +163,7 @@ module _
     (w : Writer) (t' : Target) (memory' : List ℕ) (w' : Writer) (begun : w.at ≡ 0) (ran : LineRan c t memory k w t' memory' w')
     (bytes : List ℕ) (written : bytes ≡ take w'.at w'.out.now) where
   line : bytes ≡ line_of k (called c (seen t) memory)
-  line = written ∙ ran.line.front ∙ rw begun refl
+  line = from_start begun ran.line written
 
   rest : List ℕ
   rest = lines_from (k + 1) (calls_from s (count - (k + 1)) (k + 1)) (seen t') memory'
@@ -216,32 +223,16 @@ going-ends s count k done t memory g last =
 
 -- ## A bad file
 
--- its one line
-pub head-printout : (s : List ℕ) → verdict_of s ≡ Err BadScript.Head → printout_of s ≡ bytes_of "BAD_SCRIPT HEAD\n"
-unfolding printout_of
-head-printout s bad = ap (λ (v : Result Unit BadScript). printout_by v s) bad
+-- its one line is handed over whole
+module _ (s : List ℕ) (begun : Report) {bad known : BadScript} {bytes : List ℕ}
+    (judged : verdict_of s ≡ Err bad) (none : begun.bytes ≡ 0) (known-is : bad ≡ known) (is : bytes ≡ printout_by (Err known) s) where
+  whole : printout_of s ≡ bytes
+  unfolding printout_of
+  whole = rw (is, ← known-is) (ap (λ (v : Result Unit BadScript). printout_by v s) judged)
 
-pub call-printout :
-    (s : List ℕ) (n : ℕ)
-    → verdict_of s ≡ Err (BadScript.Call n)
-    → printout_of s ≡ bytes_of "BAD_SCRIPT" ++ fields_of (n ∷ []) ++ bytes_of "\n"
-unfolding printout_of
-call-printout s n bad = ap (λ (v : Result Unit BadScript). printout_by v s) bad
-
-module _
-    (s : List ℕ) (begun : Report) (text : List ℕ) (most : ℕ) (w w' : Writer) (bytes : List ℕ)
-    (none : begun.bytes ≡ 0) (is : printout_of s ≡ text) (small : most ≤ LINE) (start : w.at ≡ 0) (wrote : Wrote w text most w')
-    (written : bytes ≡ take w'.at w'.out.now) where
-  whole-line : bytes ≡ text
-  whole-line = written ∙ wrote.front ∙ rw start refl
-
-  -- written into a buffer, it may be handed over whole
-  pub whole-next : Next s begun bytes
-  whole-next = record {
-    next = rw (none, is, whole-line) (take-length text);
-    room = rw (none, whole-line) (omega (arith, wrote.short, small));
-  }
+  pub whole-next : length bytes ≤ LINE → Next s begun bytes
+  whole-next short = record { next = rw (none, whole) (take-length bytes); room = rw none (omega (arith, short)) }
 
   -- and nothing is left
-  pub whole-done : (done : Report) → done.bytes ≡ begun.bytes + length bytes → done.bytes ≡ length (printout_of s)
-  whole-done done e = e ∙ rw (none, is, whole-line) (omega arith)
+  pub whole-done : (done : Report) → done.bytes ≡ begun.bytes + length bytes → Replayed s done
+  whole-done done e = record { printed = e ∙ rw (none, whole) (omega arith); ran = λ good. cc }

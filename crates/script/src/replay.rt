@@ -1,10 +1,7 @@
 // Document 01, "Script and printout": a whole script, judged, run on a new target with a memory of zeros, and printed line by line.
-ghost use Rattle.std.specs.Prelude.{◌≡◌, Ok, Err, ◌+◌, ◌≤◌, length, replicate};
-ghost use Rattle.reader.specs.Contents.{head_of};
+ghost use Rattle.std.specs.Prelude.{◌≡◌, Ok, Err, ◌+◌, length};
 ghost use Rattle.reader.specs.Judging.{verdict_of};
-ghost use Rattle.reader.specs.declared.judging.BadScript.TheVariants as BadScript;
-ghost use Rattle.script.specs.Printout.{printout_of};
-ghost use Rattle.script.specs.Promises.{LINE, Next, Replayed};
+ghost use Rattle.script.specs.Promises.{Next, Replayed};
 
 use crate::run;
 use host::lent;
@@ -27,104 +24,86 @@ pub struct Report {
 // A line has at most so many bytes.
 pub const LINE: usize = 33121;
 
-// Room for a line.
-fn line_buffer() -> [u8; LINE]
-    ensures { result ≡ replicate LINE 0 }
-{
-    [0u8; LINE]
-}
-
-// Hands the next bytes of a script's printout to standard output. No contract says what a foreign call writes, so the `requires` says
-// what may be handed to it: what the printout has behind the bytes that were handed over before.
-fn write_next(stdout: Stdout, script: &[u8], done: Report, bytes: &[u8]) -> Report
-    requires { Next script.now done bytes.now }
-    ensures { result.bytes ≡ done.bytes + length bytes.now }
-{
-    let mut written = done.written;
-    if written {
-        written = stdout.write_all(bytes).is_ok();
-    }
-    let n = bytes.len();
-    let total = done.bytes + n;
-    Report {
-        bytes: total,
-        written,
-    }
-}
-
-// A bad head.
-fn report_head(stdout: Stdout, script: &[u8], begun: Report, out: &mut [u8]) -> Report
-    requires { (verdict_of script.now ≡ Err BadScript.Head) × ((begun.bytes ≡ 0) × (LINE ≤ length out.old)) }
-    ensures { result.bytes ≡ length (printout_of script.now) }
-{
-    let mut w = Writer::new(out);
-    w.put_bytes(b"BAD_SCRIPT HEAD\n");
-    write_next(stdout, script, begun, w.written())
-}
-
-// A bad call.
-fn report_call(stdout: Stdout, script: &[u8], begun: Report, call: usize, out: &mut [u8]) -> Report
-    requires { (verdict_of script.now ≡ Err (BadScript.Call call)) × ((begun.bytes ≡ 0) × (LINE ≤ length out.old)) }
-    ensures { result.bytes ≡ length (printout_of script.now) }
-{
-    let mut w = Writer::new(out);
-    w.put_bytes(b"BAD_SCRIPT");
-    w.put_fields(&[call as u64]);
-    w.put_byte(b'\n');
-    write_next(stdout, script, begun, w.written())
-}
-
-// Runs a good script on a memory. The line of a call goes out before the next call.
-fn run_lines(
+// The printout of a script, on its way to standard output.
+#[derive(Drop)]
+struct Printout<'a> {
     stdout: Stdout,
-    script: &[u8],
-    begun: Report,
-    memory: &mut [u8],
-    out: &mut [u8],
-) -> Report
-    requires { (verdict_of script.now ≡ Ok tt) × ((begun.bytes ≡ 0) × ((memory.old ≡ replicate (head_of script.now).memory 0) × (LINE ≤ length out.old))) }
-    ensures { Replayed script.now result }
+    script: &'a [u8],
+    report: Report,
+}
+
+impl<'a> Printout<'a> {
+    // Hands its next bytes to standard output. No contract says what a foreign call writes, so the `requires` says what may be handed
+    // to it: what the printout has behind the bytes that were handed over before.
+    fn write_next(&mut self, bytes: &[u8])
+        requires { Next self.old.script.now self.old.report bytes.now }
+        ensures file { self.new.script ≡ self.old.script }
+        ensures bytes { self.new.report.bytes ≡ self.old.report.bytes + length bytes.now }
+    {
+        if self.report.written {
+            self.report.written = self.stdout.write_all(bytes).is_ok();
+        }
+        self.report.bytes += bytes.len();
+    }
+
+    // The one line of a bad script.
+    fn write_bad(&mut self, bad: BadScript)
+        requires { (verdict_of self.old.script.now ≡ Err bad) × (self.old.report.bytes ≡ 0) }
+        ensures { Replayed self.old.script.now self.new.report }
+    {
+        match bad {
+            BadScript::Head => self.write_next(b"BAD_SCRIPT HEAD\n"),
+            BadScript::Call(call) => {
+                let mut out = [0u8; 32];
+                let mut w = Writer::new(&mut out);
+                w.put_bytes(b"BAD_SCRIPT");
+                w.put_fields(&[call as u64]);
+                w.put_byte(b'\n');
+                self.write_next(w.written())
+            }
+        }
+    }
+}
+
+// Runs a good script on the leading part of 16,384 zero bytes. The line of a call goes out before the next call.
+fn run_lines(printout: &mut Printout)
+    requires { (verdict_of printout.old.script.now ≡ Ok tt) × (printout.old.report.bytes ≡ 0) }
+    ensures { Replayed printout.old.script.now printout.new.report }
 {
+    let script = printout.script;
     let head = contents::head_of(script);
     let mut t = Target::empty(0);
     let _ = lent::new(&mut t, Settings { size: head.memory });
+    let mut zeros = run::zero_bytes();
+    let memory = &mut zeros[..head.memory as usize];
     let mut reader = Reader::open(script);
-    let mut done = begun;
+    let mut out = [0u8; LINE];
     for k in 0..head.count as usize {
         let Some(line) = reader.read_line() else {
             unreachable!()
         };
         let call = calls::call_of(script, line);
-        let mut w = Writer::new(out);
+        let mut w = Writer::new(&mut out);
         run::run_line(&mut t, memory, script, call, k, &mut w);
-        done = write_next(stdout, script, done, w.written());
+        printout.write_next(w.written());
     }
-    done
-}
-
-// Runs a good script: its memory is the leading part of 16,384 zero bytes.
-fn run_good(stdout: Stdout, script: &[u8], begun: Report, out: &mut [u8]) -> Report
-    requires { (verdict_of script.now ≡ Ok tt) × ((begun.bytes ≡ 0) × (LINE ≤ length out.old)) }
-    ensures { Replayed script.now result }
-{
-    let head = contents::head_of(script);
-    let size = head.memory as usize;
-    let mut memory = run::zero_bytes();
-    run_lines(stdout, script, begun, &mut memory[..size], out)
 }
 
 // Judges a script and writes its printout: of a good one, what each call answers when all are run on a new target.
 pub fn replay(stdout: Stdout, script: &[u8]) -> Report
     ensures { Replayed script.now result }
 {
-    let mut out = line_buffer();
-    let begun = Report {
-        bytes: 0,
-        written: true,
+    let mut printout = Printout {
+        stdout,
+        script,
+        report: Report {
+            bytes: 0,
+            written: true,
+        },
     };
     match judging::judge(script) {
-        Ok(()) => run_good(stdout, script, begun, &mut out),
-        Err(BadScript::Head) => report_head(stdout, script, begun, &mut out),
-        Err(BadScript::Call(call)) => report_call(stdout, script, begun, call, &mut out),
+        Ok(()) => run_lines(&mut printout),
+        Err(bad) => printout.write_bad(bad),
     }
+    printout.report
 }

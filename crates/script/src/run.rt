@@ -34,14 +34,7 @@ fn run_get(t: &mut Target, memory: &[u8], q: Request, asked: usize, k: usize, w:
 }
 
 // Runs a call of a script. A put's payload is handed on as a part of the script.
-fn run_call(
-    t: &mut Target,
-    memory: &mut [u8],
-    script: &[u8],
-    call: Call,
-    k: usize,
-    w: &mut Writer,
-)
+fn run_call(t: &mut Target, memory: &mut [u8], script: &[u8], call: Call, k: usize, w: &mut Writer)
     requires { (CallFits script.now call) × (Room w.old TEXT) }
     ensures { CallRan (asked script.now call) t.old memory.old k w.old t.new memory.new w.new }
 {
