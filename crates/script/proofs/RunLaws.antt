@@ -17,7 +17,7 @@ use Rattle.conservation.specs.Runs as runs
 use Rattle.text.specs.Text.{bytes_of}
 use Rattle.text.specs.Writing.{Wrote}
 use Rattle.text.specs.declared.writing.Writer.{Writer}
-use Rattle.text.proofs.WritingLaws.{and_then, as_text, shorter}
+use Rattle.text.proofs.WritingLaws.{and_then, shorter}
 use Rattle.reader.specs.Judging.{SCRIPT_MEMORY}
 use Rattle.reader.specs.declared.calls.Call as script
 use Rattle.printer.specs.Said.{SAID, said, shown_of}
@@ -29,9 +29,7 @@ use Rattle.script.specs.Promises.{TEXT, CallRan, LineRan}
 
 -- a line that shows nothing behind its answer
 said-alone : {w w' : Writer} (k : ℕ) (a : Answer) → Wrote w (said k a) SAID w' → Wrote w (said k a ++ []) TEXT w'
-said-alone k a p =
-    let most : length (said k a ++ []) ≤ TEXT = rw (append-nil (said k a)) (omega (arith, p.short)) in
-    as_text (sym (append-nil (said k a))) most p
+said-alone k a p = rw (append-nil (said k a)) (shorter (omega arith) p)
 
 -- a step by a call that gave this answer, and showed these bytes behind it
 ran-as :

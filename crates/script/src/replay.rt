@@ -15,7 +15,7 @@ use text::writing::Writer;
 // How far a printout is written.
 #[derive(Clone, Copy)]
 pub struct Report {
-    // How many of its bytes have come up to be handed to standard output.
+    // How many of its bytes have come up to be handed to standard output: in the end all, written or not (`Replayed`).
     pub bytes: usize,
     // Standard output took all of them. Once it did not, nothing more is handed to it.
     pub written: bool,
@@ -65,7 +65,8 @@ impl<'a> Printout<'a> {
     }
 }
 
-// Runs a good script on the leading part of 16,384 zero bytes. The line of a call goes out before the next call.
+// Runs a good script on the leading part of 16,384 zero bytes: no target of such a size is refused. The line of a call goes out before
+// the next call.
 fn run_lines(printout: &mut Printout)
     requires { (verdict_of printout.old.script.now ≡ Ok tt) × (printout.old.report.bytes ≡ 0) }
     ensures { Replayed printout.old.script.now printout.new.report }

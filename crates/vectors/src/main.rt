@@ -2,25 +2,25 @@
 // printout of each stands a line with its name.
 #![tactic(auto)]
 
+use script::replay::Report;
 use script::{input, replay};
 use std::fs::File;
 use std::{env, io};
 
-// Answers whether the whole printout was written.
-fn replay_file(rt: &HostRuntime, path: &str) -> io::Result<bool> {
+// Answers how far the printout was written.
+fn replay_file(rt: &HostRuntime, path: &str) -> io::Result<Report> {
     let mut from = File::open(rt, path)?;
     let mut file = [0u8; 32769];
     let n = input::read_full(&mut from, &mut file);
     println!(rt; "== {path}")?;
-    let report = replay::replay(rt.stdout(), &file[..n]);
-    Ok(report.written)
+    Ok(replay::replay(rt.stdout(), &file[..n]))
 }
 
 // What fails is said on standard error, and the next file's turn comes.
 fn replay_argument(rt: &HostRuntime, path: &str) -> io::Result<()> {
     match replay_file(rt, path) {
-        Ok(true) => return Ok(()),
-        Ok(false) => {}
+        Ok(Report { written: true, .. }) => return Ok(()),
+        Ok(_) => {}
         Err(e) => eprintln!(rt; "{path}: {e}")?,
     }
     eprintln!(rt; "vectors: not replayed, or its printout not written")
