@@ -1,5 +1,5 @@
 // What a call hands back to a host: unsigned numbers in C's layout, with no padding. What each number means is `reply_of` of the
-// specification, and for the event read `event_reply_of`.
+// specification, and for the event read `event_reply_of`. C has no enum that is safe to receive, so answers and refusals are numbers.
 use state::layout::Event;
 
 // An answer as numbers. A number that its answer has no use for is 0.
