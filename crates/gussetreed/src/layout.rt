@@ -1,6 +1,8 @@
 // What a call hands back to a host: unsigned numbers in C's layout, with no padding. What each number means is `reply_of` of the
-// specification, and for the event read `event_reply_of`. C has no enum that is safe to receive, so answers and refusals are numbers.
+// specification, and for the event read `event_reply_of`.
 use state::layout::Event;
+
+// Answers and refusals are numbers here for the C interface.
 
 // An answer as numbers. A number that its answer has no use for is 0.
 #[repr(C)]
