@@ -2,8 +2,6 @@
 // specification, and for the event read `event_reply_of`.
 use state::layout::Event;
 
-// Answers and refusals are numbers here for the C interface.
-
 // An answer as numbers. A number that its answer has no use for is 0.
 #[repr(C)]
 #[derive(Clone, Copy)]
