@@ -1,4 +1,5 @@
-// Document 01, "Script and printout": "Kinds and bodies".
+// Document 01, "Script and printout": "Kinds and bodies". A body is read field by field, at the places that document 01 names for it: a
+// conversion would need to test again what was judged. The file and a place of it are handed on, which document 01 names as the form.
 ghost use Rattle.std.specs.Prelude.{◌≡◌, true, ◌+◌, ◌≤◌, length};
 ghost use Rattle.reader.specs.Calls.{call_kind, kind_of_call, entry_at, request_at, change_at, call_of, line_call};
 ghost use Rattle.reader.specs.Judging.{CallFits, good_body, well_formed};
