@@ -9,6 +9,7 @@ use crate::numbers;
 use matching::layout::{Entry, Request};
 use state::layout::CounterChange;
 
+// A kind is known before a body is judged; one enum for this and a call would need a body first.
 #[derive(Clone, Copy, Debug, PartialEq, Eq)]
 pub enum CallKind {
     Append,
@@ -28,7 +29,7 @@ pub enum CallKind {
 pub enum Call {
     Append(Entry),
     Unlink(u32),
-    // The payload is the part of the file from one place up to another.
+    // The payload is the part of the file from one place up to another: a call that borrowed it would be no plainer.
     Put {
         request: Request,
         from: usize,
