@@ -1,4 +1,4 @@
-// The answers of the calls as numbers.
+// The answers of the calls as numbers: C's interface has no enum.
 ghost use Rattle.std.specs.Prelude.{◌≡◌};
 ghost use Rattle.portals.specs.Answers.{refused, new_answer, append_answer, plain_answer, search_answer, request_answer, event_answer, counter_answer, register_answer, ready_answer, poll_answer};
 ghost use Rattle.gussetreed.specs.Replies.{reply, reply_of, event_reply_of};

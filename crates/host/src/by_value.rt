@@ -1,6 +1,7 @@
 // The calls by value: each calls the one of its name in `portals` on the target that it is handed, and hands back the state that this
 // leaves beside the answer, after a refusal the very same state. What a call does is said at that call in `portals`, and the promise is
 // the one there.
+ghost use Rattle.std.specs.Fn.{FnOnceReturnsAtMut};
 ghost use Rattle.portals.specs.Promises.{NewMet, AppendMet, UnlinkMet, SearchMet, PutMet, GetMet, ReadEventMet, SetCounterMet, IncrementMet, ReadCounterMet, ReadRegisterMet, ReadyMet, PollMet};
 
 use matching::layout::{Entry, Request};
@@ -9,37 +10,40 @@ use portals::answers::{Appended, Done, RequestAnswer};
 use portals::{append, counters, events, making, poll, put_get, registers, search, unlink};
 use state::layout::{Counter, CounterChange, CounterTest, Event, Settings, Target};
 
+// A call on the copy that was handed over. Put and get do so in lines of their own: what a call leaves of a slice that its closure has
+// captured was not proved.
+fn on_copy<A, F: FnOnce(&mut Target) -> A>(t: Target, call: F) -> Done<A>
+    requires { F.IsAlwaysCallable call }
+    ensures { FnOnceReturnsAtMut F.FnOnce call t result.answer result.target }
+{
+    let mut target = t;
+    let answer = call(&mut target);
+    Done { target, answer }
+}
+
 // Makes a target: beside a refusal, one of size 0.
 pub fn new(s: Settings) -> Done<Result<(), Refusal>>
     ensures { NewMet s result }
 {
-    let mut target = Target::empty(0);
-    let answer = making::new(&mut target, s);
-    Done { target, answer }
+    on_copy(Target::empty(0), |t| making::new(t, s))
 }
 
 pub fn append(t: Target, e: Entry) -> Done<Result<Appended, Refusal>>
     ensures { AppendMet t e result }
 {
-    let mut target = t;
-    let answer = append::append(&mut target, e);
-    Done { target, answer }
+    on_copy(t, |t| append::append(t, e))
 }
 
 pub fn unlink(t: Target, handle: u32) -> Done<Result<(), Refusal>>
     ensures { UnlinkMet t handle result }
 {
-    let mut target = t;
-    let answer = unlink::unlink(&mut target, handle);
-    Done { target, answer }
+    on_copy(t, |t| unlink::unlink(t, handle))
 }
 
 pub fn search(t: Target, e: Entry) -> Done<Result<usize, Refusal>>
     ensures { SearchMet t e result }
 {
-    let mut target = t;
-    let answer = search::search(&mut target, e);
-    Done { target, answer }
+    on_copy(t, |t| search::search(t, e))
 }
 
 pub fn put(
@@ -71,25 +75,19 @@ pub fn get(
 pub fn read_event(t: Target) -> Done<Result<Option<Event>, Refusal>>
     ensures { ReadEventMet t result }
 {
-    let mut target = t;
-    let answer = events::read_event(&mut target);
-    Done { target, answer }
+    on_copy(t, |t| events::read_event(t))
 }
 
 pub fn set_counter(t: Target, x: CounterChange) -> Done<Result<(), Refusal>>
     ensures { SetCounterMet t x result }
 {
-    let mut target = t;
-    let answer = counters::set_counter(&mut target, x);
-    Done { target, answer }
+    on_copy(t, |t| counters::set_counter(t, x))
 }
 
 pub fn increment(t: Target, x: CounterChange) -> Done<Result<(), Refusal>>
     ensures { IncrementMet t x result }
 {
-    let mut target = t;
-    let answer = counters::increment(&mut target, x);
-    Done { target, answer }
+    on_copy(t, |t| counters::increment(t, x))
 }
 
 pub fn read_counter(t: Target, k: u64) -> Result<Counter, Refusal>

@@ -1,6 +1,7 @@
-// Document 01, "Script and printout": "Kinds and bodies".
+// Document 01, "Script and printout": "Kinds and bodies". A body is read field by field, at the places that document 01 names for it: a
+// conversion would need to test again what was judged. The file and a place of it are handed on, which document 01 names as the form.
 ghost use Rattle.std.specs.Prelude.{◌≡◌, true, ◌+◌, ◌≤◌, length};
-ghost use Rattle.reader.specs.Calls.{call_kind, entry_at, request_at, change_at, call_of, line_call};
+ghost use Rattle.reader.specs.Calls.{call_kind, kind_of_call, entry_at, request_at, change_at, call_of, line_call};
 ghost use Rattle.reader.specs.Judging.{CallFits, good_body, well_formed};
 
 use crate::contents::Line;
@@ -8,6 +9,7 @@ use crate::numbers;
 use matching::layout::{Entry, Request};
 use state::layout::CounterChange;
 
+// A kind is known before a body is judged; one enum for this and a call would need a body first.
 #[derive(Clone, Copy, Debug, PartialEq, Eq)]
 pub enum CallKind {
     Append,
@@ -27,7 +29,7 @@ pub enum CallKind {
 pub enum Call {
     Append(Entry),
     Unlink(u32),
-    // The payload is the part of the file from one place up to another.
+    // The payload is the part of the file from one place up to another: a call that borrowed it would be no plainer.
     Put {
         request: Request,
         from: usize,
@@ -54,7 +56,7 @@ pub struct UnknownKind(pub u8);
 impl TryFrom<u8> for CallKind {
     type Error = UnknownKind;
 
-    ghost try_from_gives = { λ n r. r ≡ call_kind n };
+    ghost try_from_gives = { λ n r. r ≡ kind_of_call n };
 
     fn try_from(n: u8) -> Result<CallKind, UnknownKind> {
         match n {
@@ -71,6 +73,13 @@ impl TryFrom<u8> for CallKind {
             _ => Err(UnknownKind(n)),
         }
     }
+}
+
+// The kind that any number stands for: one that no kind has stands for the last. A script is judged by `try_from`.
+pub fn call_kind(n: u8) -> CallKind
+    ensures { result ≡ call_kind n }
+{
+    CallKind::try_from(n).unwrap_or(CallKind::ReadRegister)
 }
 
 // The entry of an append or a search.

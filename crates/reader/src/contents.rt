@@ -1,4 +1,5 @@
-// Document 01, "Script and printout": head and contents of a script.
+// Document 01, "Script and printout": head and contents of a script. They are read field by field, at the
+// places that document 01 names: a conversion would need to test again how long the file is.
 ghost use Rattle.std.specs.Prelude.{◌≡◌, ◌≤◌, length};
 ghost use Rattle.reader.specs.Contents.{HEAD, CALLS, head_of, line_at, body_lengths};
 
@@ -14,7 +15,8 @@ pub struct Head {
     pub memory: u32,
 }
 
-// A line of the contents: one call.
+// A line of the contents, one call, as the file has it: it is read before it is judged, and to keep its kind as an enum or its body as
+// a slice would need that judgement.
 #[derive(Clone, Copy)]
 pub struct Line {
     pub kind: u8,

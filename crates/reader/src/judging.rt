@@ -1,4 +1,5 @@
 // Document 01, "Script and printout": which files are bad, and where. A file is judged whole, before anything runs.
+// Kinds have tests of their own, which a match is plainer for than a table of closures.
 ghost use Rattle.std.specs.Prelude.{◌≡◌, ◌+◌, ◌≤◌, cond, length};
 ghost use Rattle.reader.specs.Contents.{CALLS, body_length, head_of, line_at};
 ghost use Rattle.reader.specs.Judging.{FILE, bodies_start, good_fields, good_head, request_zeros, good_entry, good_put, good_get, good_body, well_formed, good_line, good_call, first_bad_call, verdict_of};

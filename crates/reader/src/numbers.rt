@@ -1,4 +1,5 @@
-// Document 01, "Script and printout": numbers in a file, "Little-endian".
+// Document 01, "Script and printout": numbers in a file, "Little-endian". Each width has a function: it is
+// one line, the library's `from_le_bytes`, which belongs to no trait, so that no generic one is plainer.
 ghost use Rattle.std.specs.Prelude.{◌≡◌, ◌+◌, ◌≤◌, length};
 ghost use Rattle.reader.specs.Numbers.{number_at};
 

@@ -39,7 +39,7 @@ impl<'a> Writer<'a> {
         self.put_decimal(n);
     }
 
-    // Writes numbers, each behind a space.
+    // Writes numbers, each behind a space. One function for this and `put_hex` would need the writer's contract again, for a closure.
     pub fn put_fields(&mut self, numbers: &[u64])
         requires { Room self.old (21 * length numbers.now) }
         ensures { Wrote self.old (fields_of numbers.now) (21 * length numbers.now) self.new }
