@@ -106,10 +106,7 @@ pub fn found_count(headers: &[Header], w: &Walked, e: &Entry) -> usize
     requires { WalkInside headers.now w.now }
     ensures { result ≡ length (walk_of e.now headers.now w.now).found }
 {
-    w.part(headers)
-        .iter()
-        .filter(|h| fits_header(e, h))
-        .count()
+    w.part(headers).iter().filter(|h| fits_header(e, h)).count()
 }
 
 // With USE_ONCE there is a fit.
