@@ -1,16 +1,18 @@
 -- The loops over the headers that were found, and over the entries that keep their slot.
-use Rattle.std.proofs.Common.{◌≡◌, ℕ, ◌+◌, ◌-◌, ◌<◌, Bool, true, false, not, List, [], ◌∷◌, ◌++◌, length, map, take, drop, get_or, eqb, refl, ap, sym, ◌∙◌, eqb-true, ne_eqb, length-drop}
-use mathlib.Core.Bool.{and-false}
+use Rattle.std.proofs.Common.{◌≡◌, ℕ, ◌+◌, ◌-◌, ◌<◌, ◌≤◌, Bool, true, false, cond, not, ◌&&◌, ◌||◌, List, [], ◌∷◌, ◌++◌, length, map, take, drop, get_or, eqb, refl, ap, sym, ◌∙◌, arith, eqb-true, ne_eqb, length-append, length-drop, length-take-le, take-take, drop-drop, drop_at}
+use lib.Seq.{take-append-add, take-append-le, drop-append-add, take-paste}
+use Rattle.std.proofs.lemmas.List.{drop-take}
+use mathlib.Core.Bool.{and-true, and-false}
 use borrow.Author.Tests.{eqb-false}
 use Rattle.std.proofs.Math.Seq.{take-length}
-use Rattle.std.specs.List.{filter, sum_by}
+use Rattle.std.specs.List.{filter, sum_by, copy_within}
 use Rattle.std.proofs.lemmas.List.Sums.{sum_by-cons}
 use Rattle.matching.specs.declared.layout.Entry.{Entry}
-use Rattle.state.specs.Lists.{every, any, select, sum_of}
+use Rattle.state.specs.Lists.{every, any, select, select_not, sum_of}
 use Rattle.state.specs.View.{EventQueue, queue_of}
 use Rattle.state.specs.Soundness.{names}
-use Rattle.state.specs.Events.{overflow_event, auto_free_event, post, post_all}
-use Rattle.state.specs.Parts.{QueueHolds}
+use Rattle.state.specs.Events.{Issued, overflow_event, auto_free_event, post, post_all}
+use Rattle.state.specs.Parts.{Fits, Holds, QueueHolds}
 use Rattle.state.specs.declared.layout.HeldEntry.{HeldEntry}
 use Rattle.state.specs.declared.layout.Header.{Header}
 use Rattle.state.specs.declared.layout.Event.{Event}
@@ -18,6 +20,7 @@ use Rattle.state.specs.declared.layout.Queue.{Queue}
 use Rattle.state.proofs.ListLaws.{both}
 use Rattle.state.proofs.PostLaws.{issued-posted, then-posted}
 use Rattle.early.proofs.PostingLaws.{Posting, posting-more}
+use Rattle.early.specs.Walk.{fits_header}
 use Rattle.early.specs.HandOut.{freed_by, hand_out_event, hand_out_events}
 use Rattle.early.specs.Parts.{is_freed, free_events}
 
@@ -44,6 +47,86 @@ pub sum_of-by : {A : Type 0} (f : A → ℕ) (l : List A) → sum_by f l ≡ sum
 sum_of-by f [] = refl
 sum_of-by f (x ∷ l) = sum_by-cons f x l ∙ ap (λ (n : ℕ). f x + n) (sum_of-by f l)
 
+pub filter-select_not : {A : Type 0} (p : A → Bool) (l : List A) → filter (λ x. not (p x)) l ≡ select_not p l
+filter-select_not p [] = refl
+filter-select_not p (x ∷ l) = ap (λ (r : List _). cond (not (p x)) (x ∷ r) r) (filter-select_not p l) ∙ by (p x)
+  where
+    by : (b : Bool) → cond (not b) (x ∷ select_not p l) (select_not p l) ≡ cond b (select_not p l) (x ∷ select_not p l)
+    by true = refl
+    by false = refl
+
+-- a sum over those selected, as one over all
+pub sum_of-selected : {A : Type 0} (p : A → Bool) (f : A → ℕ) (l : List A) → sum_by (λ x. cond (p x) (f x) 0) l ≡ sum_of f (select p l)
+sum_of-selected p f [] = refl
+sum_of-selected p f (x ∷ l) =
+    sum_by-cons (λ y. cond (p y) (f y) 0) x l ∙ ap (λ (n : ℕ). cond (p x) (f x) 0 + n) (sum_of-selected p f l) ∙ by (p x)
+  where
+    by : (b : Bool) → cond b (f x) 0 + sum_of f (select p l) ≡ sum_of f (cond b (x ∷ select p l) (select p l))
+    by true = refl
+    by false = omega arith
+
+-- some of those selected, or of the others, passes
+pub any-selected : {A : Type 0} (p q : A → Bool) (l : List A) → any p (select q l) ≡ any (λ x. p x && q x) l
+any-selected p q [] = refl
+any-selected p q (x ∷ l) = by (q x) ∙ ap (λ (b : Bool). p x && q x || b) (any-selected p q l)
+  where
+    by : (b : Bool) → any p (cond b (x ∷ select q l) (select q l)) ≡ (p x && b || any p (select q l))
+    by true = rw (and-true (p x)) refl
+    by false = rw (and-false (p x)) refl
+
+pub any-unselected : {A : Type 0} (p q : A → Bool) (l : List A) → any p (select_not q l) ≡ any (λ x. p x && not (q x)) l
+any-unselected p q [] = refl
+any-unselected p q (x ∷ l) = by (q x) ∙ ap (λ (b : Bool). p x && not (q x) || b) (any-unselected p q l)
+  where
+    by : (b : Bool) → any p (cond b (select_not q l) (x ∷ select_not q l)) ≡ (p x && not b || any p (select_not q l))
+    by true = rw (and-false (p x)) refl
+    by false = rw (and-true (p x)) refl
+
+-- ## The headers that are left
+
+-- those of a part that do not pass stand at its front, and those after it move up behind them
+pub headers-left : {A : Type 0} {size : ℕ} (s part s' : List A) (p : A → Bool) (first end count kept : ℕ)
+    → Fits size s count
+    → first ≤ end
+    → end ≤ count
+    → length part ≡ length (take (end - first) (drop first s))
+    → kept ≤ length (take (end - first) (drop first s))
+    → take kept part ≡ select_not p (take (end - first) (drop first s))
+    → s' ≡ copy_within (take first s ++ (part ++ drop (end - first) (drop first s))) end count (first + kept)
+    → length s' ≡ length (take first s ++ (part ++ drop (end - first) (drop first s)))
+    → Holds size s' (count - (end - (first + kept)))
+    (take first (take count s) ++ select_not p (take (end - first) (drop first (take count s))) ++ drop end (take count s))
+headers-left {A} {size} s part s' p first end count kept fits ordered within same few front after long =
+    let room : count ≤ size = fits.room in
+    let full : length s ≡ size = fits.long in
+    let before : length (take first s) ≡ first = length-take-le first s (omega arith) in
+    let middle : length (take (end - first) (drop first s)) ≡ end - first = length-take-le (end - first) (drop first s) (omega (arith, length-drop first s)) in
+    let behind : List A = drop (end - first) (drop first s) in
+    let later : behind ≡ drop end s = drop-drop (end - first) first s ∙ ap (λ (n : ℕ). drop n s) (omega arith) in
+    let all : List A = take first s ++ (part ++ behind) in
+    let whole : length all ≡ size =
+    length-append (take first s) (part ++ behind) ∙ omega (arith, before, middle, same, length-append part behind, ap length later, length-drop end s) in
+    let front-kept : take (first + kept) all ≡ take first s ++ take kept part =
+    ap (λ (n : ℕ). take (n + kept) all) (sym before) ∙ take-append-add (take first s) (part ++ behind) kept
+    ∙ ap (λ (l : List A). take first s ++ l) (take-append-le kept part behind (omega (arith, same))) in
+    let after-kept : drop end all ≡ drop end s =
+    ap (λ (n : ℕ). drop n all) (omega (arith, before)) ∙ drop-append-add (take first s) (part ++ behind) (end - first)
+    ∙ drop_at part behind (end - first) (same ∙ middle) ∙ later in
+    let held : take (first + kept + (count - end)) s' ≡ take first s ++ take kept part ++ take (count - end) (drop end s) =
+    ap (take (first + kept + (count - end))) after
+    ∙ take-paste all (first + kept) (drop end all) (count - end) (omega (arith, whole, middle)) (omega (arith, ap length after-kept, length-drop end s))
+    ∙ rw (front-kept, after-kept) refl in
+    let part-in : take (end - first) (drop first (take count s)) ≡ take (end - first) (drop first s) =
+    ap (λ (n : ℕ). take (end - first) (drop first (take n s))) (omega arith) ∙ ap (take (end - first)) (drop-take first (count - first) s)
+    ∙ take-take (end - first) (count - first) (drop first s) (omega arith) in
+    let rest-in : drop end (take count s) ≡ take (count - end) (drop end s) =
+    ap (λ (n : ℕ). drop end (take n s)) (omega arith) ∙ drop-take end (count - end) s in
+    let count-is : count - (end - (first + kept)) ≡ first + kept + (count - end) = omega (arith, middle) in
+    record {
+      held = rw (count-is, held, front, take-take first count s (omega arith), part-in, rest-in) refl;
+      fits = record { room = omega (arith, middle); long = long ∙ whole };
+    }
+
 -- ## AUTO_FREE
 
 module _ (h : Header) (others : List Header) where
@@ -66,25 +149,33 @@ module _ (h : Header) (others : List Header) where
 
 -- ## All headers found
 
--- a turn of the loop over them, at place i: the overflow event of the header there is made and posted, and then AUTO_FREE
-pub handing-more : (e : Entry) (owner : ℕ) (entries : List HeldEntry) (found left : List Header) (i : ℕ) (d : Header) (v : EventQueue) (q q' q'' : Queue)
-    (event : Event) (waits : Bool)
-    → Posting (hand_out_events e owner entries left) found v q i
-    → i < length found
-    → event ≡ (overflow_event (get_or found i d) e owner).event
-    → QueueHolds q' (post (queue_of q) (record { event = event; options = e.options }))
-    → waits ≡ any (names (get_or found i d).handle) (take (length found - (i + 1)) (drop (i + 1) found) ++ left)
-    → QueueHolds q'' (post_all (queue_of q') (free_events (get_or found i d).handle (not waits) entries))
-    → Posting (hand_out_events e owner entries left) found v q'' (i + 1)
-handing-more e owner entries found left i d v q q' q'' event waits p inside made posted is freed =
-    let h = get_or found i d in
-    let later = drop (i + 1) found in
-    let others = later ++ left in
-    let rest : take (length found - (i + 1)) later ≡ later = rw (← length-drop (i + 1) found) (take-length later) in
-    let told : waits ≡ any (names h.handle) others = rw rest at is in
-    let first : QueueHolds q' (post_all (queue_of q) (overflow_event h e owner ∷ [])) =
-    issued-posted q' (queue_of q) event (overflow_event h e owner) made posted in
-    let then : QueueHolds q'' (post_all (queue_of q') (map auto_free_event (select (freed_by h others) entries))) =
-    rw (← frees h others (not waits) entries (ap not told)) freed in
-    posting-more (hand_out_events e owner entries left) p d inside q'' (hand_out_event e owner entries h others) refl
-    (then-posted q' q'' (queue_of q) (overflow_event h e owner ∷ []) (map auto_free_event (select (freed_by h others) entries)) first then)
+module _ (e : Entry) (owner : ℕ) (entries : List HeldEntry) (left : List Header) where
+  -- what is posted for those of a list that fit
+  abbrev pub handing : List Header → List Issued
+  handing l = hand_out_events e owner entries left (select (fits_header e) l)
+
+  module _ (part : List Header) (i : ℕ) (d : Header) (v : EventQueue) (q : Queue) (p : Posting handing part v q i) (inside : i < length part) where
+    -- a turn of the loop over them, at place i: the header there does not fit
+    pub handing-past : fits_header e (get_or part i d) ≡ false → Posting handing part v q (i + 1)
+    handing-past misses = posting-more handing p d inside q [] (rw misses refl) (record { held = refl; fits = p.queue })
+
+    -- it does: its overflow event is made and posted, and then AUTO_FREE
+    pub handing-more : (q' q'' : Queue) (event : Event) (waits : Bool)
+        → fits_header e (get_or part i d) ≡ true
+        → event ≡ (overflow_event (get_or part i d) e owner).event
+        → QueueHolds q' (post (queue_of q) (record { event = event; options = e.options }))
+        → waits ≡ any (names (get_or part i d).handle) (select (fits_header e) (take (length part - (i + 1)) (drop (i + 1) part)) ++ left)
+        → QueueHolds q'' (post_all (queue_of q') (free_events (get_or part i d).handle (not waits) entries))
+        → Posting handing part v q'' (i + 1)
+    handing-more q' q'' event waits fits made posted is freed =
+        let h = get_or part i d in
+        let later = drop (i + 1) part in
+        let others = select (fits_header e) later ++ left in
+        let rest : take (length part - (i + 1)) later ≡ later = rw (← length-drop (i + 1) part) (take-length later) in
+        let told : waits ≡ any (names h.handle) others = rw rest at is in
+        let first : QueueHolds q' (post_all (queue_of q) (overflow_event h e owner ∷ [])) =
+        issued-posted q' (queue_of q) event (overflow_event h e owner) made posted in
+        let then : QueueHolds q'' (post_all (queue_of q') (map auto_free_event (select (freed_by h others) entries))) =
+        rw (← frees h others (not waits) entries (ap not told)) freed in
+        posting-more handing p d inside q'' (hand_out_event e owner entries h others) (rw fits refl)
+        (then-posted q' q'' (queue_of q) (overflow_event h e owner ∷ []) (map auto_free_event (select (freed_by h others) entries)) first then)

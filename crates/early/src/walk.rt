@@ -1,20 +1,20 @@
 // The walk over the unexpected headers, oldest first. It is the same for an append and for both modes of a search.
-ghost use Rattle.std.specs.Prelude.{◌≡◌, ◌≤◌, length};
-ghost use Rattle.state.specs.Sizes.{HEADERS};
-ghost use Rattle.state.specs.Parts.{UnexpectedFit};
+ghost use Rattle.std.specs.Prelude.{◌≡◌, cond, List, length, None, position};
 ghost use Rattle.early.specs.Walk.{arrival_in, fits_header, uses_once, walk_for, walk_if, found_once};
-ghost use Rattle.early.specs.Parts.{walk_of, WalkHolds};
+ghost use Rattle.early.specs.Parts.{part, finds, walk_of, WalkInside, WalkFits, WalkHolds};
+ghost use Rattle.state.specs.declared.layout.Header.{Header};
 
 use matching::layout::Entry;
 use matching::request::Arrival;
 use matching::{early_messages, entry};
-use state::layout::{Header, Unexpected};
+use state::layout::Header;
 
-// What a walk found and what it left, each in the order of arrival.
+// How far a walk went: from the first header that fits up to `end`. Those between the two that fit are found, and all others are left.
+// Where none fits, both are the number of the headers.
 #[derive(Clone, Copy)]
 pub struct Walked {
-    pub found: Unexpected,
-    pub left: Unexpected,
+    pub first: usize,
+    pub end: usize,
 }
 
 // The message of a header as it arrived.
@@ -34,7 +34,7 @@ fn arrival_in(h: &Header) -> Arrival
 }
 
 // A header of the entry's own portal fits it.
-fn fits_header(e: &Entry, h: &Header) -> bool
+pub fn fits_header(e: &Entry, h: &Header) -> bool
     ensures { result ≡ fits_header e.now h.now }
 {
     (h.portal == e.portal) && early_messages::is_fit(e, &arrival_in(h))
@@ -47,39 +47,71 @@ fn uses_once(e: &Entry) -> bool
     entry::is_set(e.options, entry::USE_ONCE)
 }
 
-// The walk of a call that walks: all that fit are found, or under USE_ONCE the first of them; the others are left. A call that does not
-// walk finds none and leaves all: its walk is over before it begins.
-#[tactic(auto, unfolding(crate::specs::Walk::walk_for))]
-pub fn walk_if(headers: &[Header], walks: bool, e: &Entry) -> Walked
-    requires { length headers.now ≤ HEADERS }
-    ensures { WalkHolds result (walk_if walks e.now headers.now) }
+// The place of the first that fits, if one does. Where a call does not walk there is none.
+fn first_fit(headers: &[Header], walks: bool, e: &Entry) -> Option<usize>
+    ensures { result ≡ cond walks (position (fits_header e.now) headers.now) None }
 {
-    let once = uses_once(e);
-    let mut found = Unexpected::none();
-    let mut left = Unexpected::none();
-    let mut over = !walks;
-    for h in headers {
-        if !over && fits_header(e, h) {
-            found.add(*h);
-            over = once;
-        } else {
-            left.add(*h);
-        }
+    if walks {
+        headers.iter().position(|h| fits_header(e, h))
+    } else {
+        None
     }
-    Walked { found, left }
+}
+
+// The walk of a call that walks: all that fit are found, or under USE_ONCE the first of them; the others are left. A call that does not
+// walk finds none and leaves all.
+pub fn walk_if(headers: &[Header], walks: bool, e: &Entry) -> Walked
+    ensures { WalkHolds e.now headers.now result (walk_if walks e.now headers.now) }
+{
+    let all = headers.len();
+    match first_fit(headers, walks, e) {
+        Some(first) if uses_once(e) => Walked {
+            first,
+            end: first + 1,
+        },
+        Some(first) => Walked { first, end: all },
+        None => Walked {
+            first: all,
+            end: all,
+        },
+    }
 }
 
 // The walk.
 pub fn walk_for(headers: &[Header], e: &Entry) -> Walked
-    requires { length headers.now ≤ HEADERS }
-    ensures { WalkHolds result (walk_for e.now headers.now) }
+    ensures { WalkHolds e.now headers.now result (walk_for e.now headers.now) }
 {
     walk_if(headers, true, e)
 }
 
+impl Walked {
+    // Some header is found.
+    pub fn finds(&self) -> bool
+        ensures { result ≡ finds self.now }
+    {
+        self.first < self.end
+    }
+
+    // The headers from the first that fits up to the end of the walk.
+    pub fn part<'a>(&self, headers: &'a [Header]) -> &'a [Header]
+        requires { WalkInside headers.now self.now }
+        ensures { result.now ≡ part self.now headers.now }
+    {
+        &headers[self.first..self.end]
+    }
+}
+
+// How many are found.
+pub fn found_count(headers: &[Header], w: &Walked, e: &Entry) -> usize
+    requires { WalkInside headers.now w.now }
+    ensures { result ≡ length (walk_of e.now headers.now w.now).found }
+{
+    w.part(headers).iter().filter(|h| fits_header(e, h)).count()
+}
+
 // With USE_ONCE there is a fit.
 pub fn found_once(w: &Walked, e: &Entry) -> bool
-    ensures { UnexpectedFit w.now.found → (result ≡ found_once e.now (walk_of w.now)) }
+    ensures { (headers : List Header) → WalkFits e.now headers w.now → (result ≡ found_once e.now (walk_of e.now headers w.now)) }
 {
-    uses_once(e) && 0 < w.found.count
+    uses_once(e) && w.finds()
 }

@@ -28,6 +28,7 @@ pub fn search(t: &mut Target, e: Entry) -> Result<usize, Refusal>
 {
     admission::admit(t, entry::test_entry(&e, t.size))?;
     let w = walk::walk_for(t.unexpected.in_use(), &e);
+    let found = walk::found_count(t.unexpected.in_use(), &w, &e);
     handling::handle(t, search_handling(e.list), &w, &e);
-    Ok(w.found.count)
+    Ok(found)
 }

@@ -1,14 +1,15 @@
 -- Where nothing was found all keep their slot.
-use Rattle.std.proofs.Common.{◌≡◌, sym, arith}
-use Rattle.state.specs.View.{entries_of, headers_of}
+use Rattle.std.proofs.Common.{sym, ◌∙◌}
+use Rattle.state.specs.View.{entries_of}
 use Rattle.state.specs.Soundness.{keeps_slot}
+use Rattle.early.specs.Parts.{walk_of}
 use Rattle.early.proofs.HandOutLaws.{select-all}
 use Rattle.early.proofs.hand_out.keep_entries.Goals as goal
 
-pub returns-else-w-gt0 : goal.returns-else-w-gt0
-returns-else-w-gt0 c =
-    let none : c.args.w.now.found.count ≡ 0 = omega arith in
-    record {
-      held = sym (select-all (keeps_slot (headers_of c.args.w.now.left)) (entries_of c.args.es.now) (c.requires.kept none));
-      fits = c.requires.fits;
-    }
+pub returns-else-finds : goal.returns-else-finds
+returns-else-finds c = record {
+  held =
+      sym (select-all (keeps_slot (walk_of c.args.e.now c.args.headers.now c.args.w.now).left) (entries_of c.args.es.now)
+      (c.requires.kept (sym c.finds.ensures ∙ c.if-finds.false)));
+  fits = c.requires.fits;
+}

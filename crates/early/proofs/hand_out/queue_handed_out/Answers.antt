@@ -1,9 +1,23 @@
-use Rattle.std.proofs.Common.{rules}
-use Rattle.early.proofs.HandOutLaws.{handing-more}
+-- A header that fits is handed out; another is passed.
+use Rattle.std.proofs.Common.{◌∙◌, sym, rules}
+use Rattle.state.specs.View.{zero_header}
+use Rattle.early.specs.Parts.{walk_of}
+use Rattle.early.proofs.HandOutLaws.{handing-past, handing-more}
 use Rattle.early.proofs.hand_out.queue_handed_out.Goals as goal
+use Rattle.early.proofs.hand_out.queue_handed_out.Goals.{then-fits_header, else-fits_header}
 
 pub loop-i-preserved : goal.loop-i-preserved
 loop-i-preserved c =
-    handing-more c.args.e.now c.args.owner c.args.entries.now c.in_use-found.result.now c.in_use-left.result.now c.loop-i.i _ _ c.loop-i.q c.post.new.self
-    c.queue_freed.new.q c.overflow_event.result c.still_waits-last.result c.loop-i.invariant (search rules) c.overflow_event.ensures c.post.ensures
-    c.still_waits-last.ensures c.queue_freed.ensures
+    let e = c.args.e.now in
+    let left = (walk_of e c.args.headers.now c.args.w.now).left in
+    elim c.if-fits_header.branch [
+      | then-fits_header w ↦
+          rw w.q-is
+          (handing-more e c.args.owner c.args.entries.now left c.part-part.result.now c.loop-i.i zero_header _ c.loop-i.q c.loop-i.invariant (search rules)
+          w.post.new.self w.queue_freed.new.q w.overflow_event.result w.still_waits-last.result
+          (sym c.fits_header.ensures ∙ w.if-fits_header.true) w.overflow_event.ensures w.post.ensures w.still_waits-last.ensures w.queue_freed.ensures)
+      | else-fits_header w ↦
+          rw w.q-is
+          (handing-past e c.args.owner c.args.entries.now left c.part-part.result.now c.loop-i.i zero_header _ c.loop-i.q c.loop-i.invariant (search rules)
+          (sym c.fits_header.ensures ∙ w.if-fits_header.false))
+    ]

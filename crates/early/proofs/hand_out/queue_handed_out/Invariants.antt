@@ -1,8 +1,9 @@
--- The loop hands out one header after the other.
+-- The loop looks at one header after the other, and hands out those that fit.
 use Rattle.state.specs.View.{queue_of}
-use Rattle.early.specs.HandOut.{hand_out_events}
+use Rattle.early.specs.Parts.{walk_of}
 use Rattle.early.proofs.PostingLaws.{Posting}
+use Rattle.early.proofs.HandOutLaws.{handing}
 use Rattle.early.proofs.hand_out.queue_handed_out.Given as goal
 
 abbrev pub invariant-loop-i : goal.invariant-loop-i
-invariant-loop-i l = Posting (hand_out_events l.e l.owner l.entries l.left) l.found (queue_of l.initial.q) l.q l.i
+invariant-loop-i l = Posting (handing l.e l.owner l.entries (walk_of l.e l.headers l.w).left) l.part (queue_of l.initial.q) l.q l.i

@@ -1,4 +1,5 @@
 -- What the walk found decides the answer, and the answer what is left of the target.
+use Rattle.state.specs.View.{headers_of}
 use Rattle.portals.proofs.MetLaws.{handed-on, refused-kept}
 use Rattle.portals.proofs.EarlyMet.{append-guarded, walked-allows, append-met}
 use Rattle.portals.specs.EarlyMessages.{append_tests}
@@ -18,5 +19,5 @@ returns c =
     let walked = rw c.in_use.ensures at c.walk_if-w.ensures in
     rw c.taken_or_linked-answer.ensures
     (append-met c.args.t.now c.handle.new.t c.args.e c.walk_if-w.result c.found_once-taken.result c.in_ok-append_admitted.ensures
-    walked (c.found_once-taken.ensures walked.found.fits)
+    walked (c.found_once-taken.ensures (headers_of c.args.t.now.unexpected) walked.fits)
     (rw (c.append_handling.ensures, c.taken_or_linked-answer.ensures) at c.handle.ensures))

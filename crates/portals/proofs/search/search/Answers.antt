@@ -19,7 +19,8 @@ handle-requires-clause-target_allows c =
 
 pub returns : goal.returns
 returns c =
-    search-met c.args.t.now c.handle.new.t c.args.e c.walk_for-w.result
+    search-met c.args.t.now c.handle.new.t c.args.e c.walk_for-w.result _
     (search-admits c.args.t.now c.args.e _ (rw c.test_entry.ensures at c.in_ok-admit.ensures))
     (rw c.in_use.ensures at c.walk_for-w.ensures)
+    (rw c.in_use-2.ensures at c.found_count-found.ensures)
     (rw c.search_handling.ensures at c.handle.ensures)

@@ -1,0 +1,11 @@
+use Rattle.std.proofs.Common.{◌∙◌, sym, ◌&&◌, not, rules, tests}
+use Rattle.state.specs.Soundness.{names}
+use Rattle.state.proofs.FoundLaws.{any_told}
+use Rattle.early.specs.Walk.{fits_header}
+use Rattle.early.proofs.HandOutLaws.{any-unselected}
+use Rattle.early.proofs.hand_out.is_passed.Goals as goal
+
+pub returns : goal.returns
+returns c =
+    (any_told (λ h. names c.args.handle h && not (fits_header c.args.e.now h)) _ _ _ _ c.args.part.now c.any.ensures.ran (λ x b q k. search (rules, tests)) cc)
+    ∙ sym (any-unselected (names c.args.handle) (fits_header c.args.e.now) c.args.part.now)
