@@ -1,6 +1,7 @@
 // The calls by value: each calls the one of its name in `portals` on the target that it is handed, and hands back the state that this
 // leaves beside the answer, after a refusal the very same state. What a call does is said at that call in `portals`, and the promise is
 // the one there.
+ghost use Rattle.std.specs.Fn.{FnOnceReturnsAtMut};
 ghost use Rattle.portals.specs.Promises.{NewMet, AppendMet, UnlinkMet, SearchMet, PutMet, GetMet, ReadEventMet, SetCounterMet, IncrementMet, ReadCounterMet, ReadRegisterMet, ReadyMet, PollMet};
 
 use matching::layout::{Entry, Request};
@@ -9,87 +10,81 @@ use portals::answers::{Appended, Done, RequestAnswer};
 use portals::{append, counters, events, making, poll, put_get, registers, search, unlink};
 use state::layout::{Counter, CounterChange, CounterTest, Event, Settings, Target};
 
+// A call in place, made on a copy of the target: the copy is handed back as the call leaves it.
+fn on_copy<A, F: FnOnce(&mut Target) -> A>(mut t: Target, call: F) -> Done<A>
+    requires { F.IsAlwaysCallable call }
+    ensures { FnOnceReturnsAtMut F.FnOnce call t result.answer result.target }
+{
+    let answer = call(&mut t);
+    Done { target: t, answer }
+}
+
 // Makes a target: beside a refusal, one of size 0.
 pub fn new(s: Settings) -> Done<Result<(), Refusal>>
     ensures { NewMet s result }
 {
-    let mut target = Target::empty(0);
-    let answer = making::new(&mut target, s);
-    Done { target, answer }
+    on_copy(Target::empty(0), |u| making::new(u, s))
 }
 
 pub fn append(t: Target, e: Entry) -> Done<Result<Appended, Refusal>>
     ensures { AppendMet t e result }
 {
-    let mut target = t;
-    let answer = append::append(&mut target, e);
-    Done { target, answer }
+    on_copy(t, |u| append::append(u, e))
 }
 
 pub fn unlink(t: Target, handle: u32) -> Done<Result<(), Refusal>>
     ensures { UnlinkMet t handle result }
 {
-    let mut target = t;
-    let answer = unlink::unlink(&mut target, handle);
-    Done { target, answer }
+    on_copy(t, |u| unlink::unlink(u, handle))
 }
 
 pub fn search(t: Target, e: Entry) -> Done<Result<usize, Refusal>>
     ensures { SearchMet t e result }
 {
-    let mut target = t;
-    let answer = search::search(&mut target, e);
-    Done { target, answer }
+    on_copy(t, |u| search::search(u, e))
 }
 
+// Written out, as `get` is: had a closure the slice that the call writes to, nothing would be known of the slice after it.
 pub fn put(
-    t: Target,
+    mut t: Target,
     memory: &mut [u8],
     q: Request,
     payload: &[u8],
 ) -> Done<Result<RequestAnswer, Refusal>>
     ensures { PutMet t memory.old q payload.now result memory.new }
 {
-    let mut target = t;
-    let answer = put_get::put(&mut target, memory, q, payload);
-    Done { target, answer }
+    let answer = put_get::put(&mut t, memory, q, payload);
+    Done { target: t, answer }
 }
 
 pub fn get(
-    t: Target,
+    mut t: Target,
     memory: &[u8],
     q: Request,
     reply: &mut [u8],
 ) -> Done<Result<RequestAnswer, Refusal>>
     ensures { GetMet t memory.now q reply.old result reply.new }
 {
-    let mut target = t;
-    let answer = put_get::get(&mut target, memory, q, reply);
-    Done { target, answer }
+    let answer = put_get::get(&mut t, memory, q, reply);
+    Done { target: t, answer }
 }
 
 pub fn read_event(t: Target) -> Done<Result<Option<Event>, Refusal>>
     ensures { ReadEventMet t result }
 {
-    let mut target = t;
-    let answer = events::read_event(&mut target);
-    Done { target, answer }
+    on_copy(t, events::read_event)
 }
 
 pub fn set_counter(t: Target, x: CounterChange) -> Done<Result<(), Refusal>>
     ensures { SetCounterMet t x result }
 {
-    let mut target = t;
-    let answer = counters::set_counter(&mut target, x);
-    Done { target, answer }
+    on_copy(t, |u| counters::set_counter(u, x))
 }
 
 pub fn increment(t: Target, x: CounterChange) -> Done<Result<(), Refusal>>
     ensures { IncrementMet t x result }
 {
-    let mut target = t;
-    let answer = counters::increment(&mut target, x);
-    Done { target, answer }
+    on_copy(t, |u| counters::increment(u, x))
 }
 
 pub fn read_counter(t: Target, k: u64) -> Result<Counter, Refusal>
