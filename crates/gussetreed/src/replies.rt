@@ -153,7 +153,7 @@ impl Tell for Option<Event> {
     }
 }
 
-// A target that is made has no answer but that it is, which `()` says of other calls as DONE.
+// Of `new`, whose `()` is MADE and not DONE.
 pub fn new_reply(a: Result<(), Refusal>) -> Reply
     ensures { result ≡ reply_of (new_answer a) }
 {

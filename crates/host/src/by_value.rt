@@ -44,7 +44,7 @@ pub fn search(t: Target, e: Entry) -> Done<Result<usize, Refusal>>
     on_copy(t, |u| search::search(u, e))
 }
 
-// Written out, as `get` is: had a closure the slice that the call writes to, nothing would be known of the slice after it.
+// Written out, as `get` is: of a slice that a closure writes to, nothing is known behind the call that the closure is passed to.
 pub fn put(
     mut t: Target,
     memory: &mut [u8],

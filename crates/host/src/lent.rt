@@ -47,7 +47,7 @@ pub fn search(t: &mut Target, e: Entry) -> Result<usize, Refusal>
     on_lent(t, |u| by_value::search(u, e))
 }
 
-// Written out, as `get` is, for the reason that `by_value` gives.
+// Written out, as `get` is, for the reason that `put` of `by_value` gives.
 pub fn put(
     t: &mut Target,
     memory: &mut [u8],
