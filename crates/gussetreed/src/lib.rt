@@ -2,5 +2,6 @@
 #![tactic(auto)]
 
 pub mod calls;
+// For the C interface answers and refusals are numbers there.
 pub mod layout;
 pub mod replies;

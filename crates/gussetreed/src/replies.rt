@@ -1,4 +1,4 @@
-// The answers of the calls as numbers.
+// The answers of the calls as numbers: C's interface has no enum.
 ghost use Rattle.std.specs.Prelude.{◌≡◌, cond};
 ghost use Rattle.portals.specs.Answers.{Answer, DONE, SEARCHED, COUNTER, REGISTER, READY, NOT_READY, refused, answered, new_answer, appended_as, taken_as, read_as, event_answer, reached_answer};
 ghost use Rattle.gussetreed.specs.Replies.{reply, reply_of, event_reply_of};

@@ -23,28 +23,28 @@ fn on_copy<A, F: FnOnce(&mut Target) -> A>(mut t: Target, call: F) -> Done<A>
 pub fn new(s: Settings) -> Done<Result<(), Refusal>>
     ensures { NewMet s result }
 {
-    on_copy(Target::empty(0), |u| making::new(u, s))
+    on_copy(Target::empty(0), |t| making::new(t, s))
 }
 
 pub fn append(t: Target, e: Entry) -> Done<Result<Appended, Refusal>>
     ensures { AppendMet t e result }
 {
-    on_copy(t, |u| append::append(u, e))
+    on_copy(t, |t| append::append(t, e))
 }
 
 pub fn unlink(t: Target, handle: u32) -> Done<Result<(), Refusal>>
     ensures { UnlinkMet t handle result }
 {
-    on_copy(t, |u| unlink::unlink(u, handle))
+    on_copy(t, |t| unlink::unlink(t, handle))
 }
 
 pub fn search(t: Target, e: Entry) -> Done<Result<usize, Refusal>>
     ensures { SearchMet t e result }
 {
-    on_copy(t, |u| search::search(u, e))
+    on_copy(t, |t| search::search(t, e))
 }
 
-// Written out, as `get` is: of a slice that a closure writes to, nothing is known behind the call that the closure is passed to.
+// Written out, as `get` is: what a call leaves of a slice that its closure has captured was not proved.
 pub fn put(
     mut t: Target,
     memory: &mut [u8],
@@ -78,13 +78,13 @@ pub fn read_event(t: Target) -> Done<Result<Option<Event>, Refusal>>
 pub fn set_counter(t: Target, x: CounterChange) -> Done<Result<(), Refusal>>
     ensures { SetCounterMet t x result }
 {
-    on_copy(t, |u| counters::set_counter(u, x))
+    on_copy(t, |t| counters::set_counter(t, x))
 }
 
 pub fn increment(t: Target, x: CounterChange) -> Done<Result<(), Refusal>>
     ensures { IncrementMet t x result }
 {
-    on_copy(t, |u| counters::increment(u, x))
+    on_copy(t, |t| counters::increment(t, x))
 }
 
 pub fn read_counter(t: Target, k: u64) -> Result<Counter, Refusal>

@@ -32,19 +32,19 @@ pub fn new(place: &mut Target, s: Settings) -> Result<(), Refusal>
 pub fn append(t: &mut Target, e: Entry) -> Result<Appended, Refusal>
     ensures { AppendMet t.old e (record { target = t.new; answer = result }) }
 {
-    on_lent(t, |u| by_value::append(u, e))
+    on_lent(t, |t| by_value::append(t, e))
 }
 
 pub fn unlink(t: &mut Target, handle: u32) -> Result<(), Refusal>
     ensures { UnlinkMet t.old handle (record { target = t.new; answer = result }) }
 {
-    on_lent(t, |u| by_value::unlink(u, handle))
+    on_lent(t, |t| by_value::unlink(t, handle))
 }
 
 pub fn search(t: &mut Target, e: Entry) -> Result<usize, Refusal>
     ensures { SearchMet t.old e (record { target = t.new; answer = result }) }
 {
-    on_lent(t, |u| by_value::search(u, e))
+    on_lent(t, |t| by_value::search(t, e))
 }
 
 // Written out, as `get` is, for the reason that `put` of `by_value` gives.
@@ -83,13 +83,13 @@ pub fn read_event(t: &mut Target) -> Result<Option<Event>, Refusal>
 pub fn set_counter(t: &mut Target, x: CounterChange) -> Result<(), Refusal>
     ensures { SetCounterMet t.old x (record { target = t.new; answer = result }) }
 {
-    on_lent(t, |u| by_value::set_counter(u, x))
+    on_lent(t, |t| by_value::set_counter(t, x))
 }
 
 pub fn increment(t: &mut Target, x: CounterChange) -> Result<(), Refusal>
     ensures { IncrementMet t.old x (record { target = t.new; answer = result }) }
 {
-    on_lent(t, |u| by_value::increment(u, x))
+    on_lent(t, |t| by_value::increment(t, x))
 }
 
 pub fn read_counter(t: &Target, k: u64) -> Result<Counter, Refusal>

@@ -1,4 +1,4 @@
-// The numbers that stand for kinds in headers and events.
+// The numbers that stand for kinds in headers and events, where C's layout has numbers; the header for hosts has those of events.
 ghost use Rattle.std.specs.Prelude.{◌≡◌};
 ghost use Rattle.matching.specs.Kinds.{kind_number, kind_of, event_number, event_kind, fail_number, fail_type};
 

@@ -73,7 +73,7 @@ reached_from counters i (k ∷ ks) [] = None
 reached_from counters i (k ∷ ks) (test ∷ tests) =
     cond (has_reached (counter_at counters k) test) (Some i) (reached_from counters (suc i) ks tests)
 
--- "or NONE_REACHED"
+-- the place that is reached, "or NONE_REACHED" (`reached_answer` of Answers.antt)
 unfoldable pub poll : View → List ℕ → List ℕ → Answer
 poll v ks tests =
     guarded_read (good_arguments (bad_poll_argument ks tests) ∷ [])

@@ -35,7 +35,7 @@ pub fn put_said(w: &mut Writer, k: usize, word: &[u8], numbers: &[u64])
     w.put_fields(numbers);
 }
 
-// "REFUSED name".
+// "REFUSED name". A name is a text and no Display: the buffer is fixed, and what Display promises has no bound.
 fn refusal_text(refusal: Refusal) -> &'static [u8]
     ensures text { result.now ++ fields_of [] ≡ refusal_text (refusal_number refusal) }
     ensures short { length result.now ≤ 20 }

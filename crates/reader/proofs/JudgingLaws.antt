@@ -11,7 +11,7 @@ use lib.ListN.{length}
 use Rattle.std.specs.Prelude.{Option, Some, None, Result, Ok, Err}
 use Rattle.state.proofs.ListLaws.{both}
 use Rattle.reader.specs.Contents.{HEAD, CALLS, head_of, line_at, body_length, body_lengths}
-use Rattle.reader.specs.Calls.{call_kind}
+use Rattle.reader.specs.Calls.{kind_of_call}
 use Rattle.reader.specs.Judging.{FILE, SCRIPT_MEMORY, good_fields, bodies_start, good_size, good_head, good_body, formed_as, well_formed, good_call, first_bad_call, verdict_of}
 use Rattle.reader.specs.declared.contents.Line.{Line}
 use Rattle.reader.specs.declared.calls.CallKind.{CallKind}
@@ -76,7 +76,7 @@ call_ends s at None good = absurd (cc)
 call_ends s at (Some l) good =
     let (formed, placed) = both (well_formed s l) (eqb l.place at) good in
     let is = eqb-true l.place at placed in
-    let inside = formed-inside s l (call_kind l.kind) formed in
+    let inside = formed-inside s l (kind_of_call l.kind) formed in
     omega arith
 
 -- ## What holds of a file that is good

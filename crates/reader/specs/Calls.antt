@@ -1,5 +1,6 @@
 -- Document 01, "Script and printout": "Kinds and bodies".
 use Rattle.std.specs.Prelude.{ℕ, ◌+◌, cond, List, Option, Some, None, Result, Ok, Err, eqb}
+use Rattle.std.specs.Result.{result_unwrap_or}
 use Rattle.matching.specs.declared.layout.Entry.{Entry}
 use Rattle.matching.specs.declared.layout.Request.{Request}
 use Rattle.state.specs.declared.layout.CounterChange.{CounterChange}
@@ -11,8 +12,8 @@ use Rattle.reader.specs.declared.calls.Call.{Call}
 
 -- "1 append and 9 search ..; 2 unlink ..; 3 put and 4 get ..; 5 read event ..; 6 read counter ..; 7 set, 8 increment ..; 10 read register".
 -- No other number is a kind.
-abbrev pub call_kind : ℕ → Result CallKind UnknownKind
-call_kind n =
+abbrev pub kind_of_call : ℕ → Result CallKind UnknownKind
+kind_of_call n =
     cond (eqb n 1) (Ok CallKind.Append)
     (cond (eqb n 2) (Ok CallKind.Unlink)
     (cond (eqb n 3) (Ok CallKind.Put)
@@ -24,6 +25,10 @@ call_kind n =
     (cond (eqb n 9) (Ok CallKind.Search)
     (cond (eqb n 10) (Ok CallKind.ReadRegister)
     (Err (record { 0 = n })))))))))))
+
+-- the kind that any number stands for: one that no kind has stands for the last
+abbrev pub call_kind : ℕ → CallKind
+call_kind n = result_unwrap_or (kind_of_call n) CallKind.ReadRegister
 
 -- "portal, list or mode, counter, zero: u8; options, start, length, min_free, uid, nid, pid: u32; match, ignore, user: u64; 56 bytes"
 unfoldable pub entry_at : List ℕ → ℕ → Entry
@@ -85,4 +90,4 @@ call_by_kind (Ok kind) s l = Some (call_of kind s l)
 call_by_kind (Err unknown) s l = None
 
 abbrev pub line_call : List ℕ → Line → Option Call
-line_call s l = call_by_kind (call_kind l.kind) s l
+line_call s l = call_by_kind (kind_of_call l.kind) s l

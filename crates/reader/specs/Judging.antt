@@ -2,7 +2,7 @@
 use Rattle.std.specs.Prelude.{ℕ, zero, suc, ◌+◌, ◌≤◌, Bool, false, cond, ◌&&◌, List, Option, Some, None, Result, Ok, Err, leb, eqb, length}
 use Rattle.reader.specs.Numbers.{number_at, byte_at}
 use Rattle.reader.specs.Contents.{HEAD, CALLS, head_of, line_start, line_at, body_length, body_lengths}
-use Rattle.reader.specs.Calls.{call_kind, request_at, length_at}
+use Rattle.reader.specs.Calls.{kind_of_call, request_at, length_at}
 use Rattle.reader.specs.declared.contents.Head.{Head}
 use Rattle.reader.specs.declared.contents.Line.{Line}
 use Rattle.reader.specs.declared.calls.Call.{Call}
@@ -80,7 +80,7 @@ formed_as (Err unknown) s l = false
 formed_as (Ok kind) s l = eqb l.reserved 0 && (leb (l.place + l.length) (length s) && good_body kind s l)
 
 unfoldable pub well_formed : List ℕ → Line → Bool
-well_formed s l = formed_as (call_kind l.kind) s l
+well_formed s l = formed_as (kind_of_call l.kind) s l
 
 -- what a call of a well formed line says: a put's payload lies in the file; a get asks for no more than the largest memory
 abbrev pub CallFits : List ℕ → Call → Type 0

@@ -1,6 +1,6 @@
 // Document 01, "Script and printout": "Kinds and bodies".
 ghost use Rattle.std.specs.Prelude.{◌≡◌, true, ◌+◌, ◌≤◌, length};
-ghost use Rattle.reader.specs.Calls.{call_kind, entry_at, request_at, change_at, call_of, line_call};
+ghost use Rattle.reader.specs.Calls.{call_kind, kind_of_call, entry_at, request_at, change_at, call_of, line_call};
 ghost use Rattle.reader.specs.Judging.{CallFits, good_body, well_formed};
 
 use crate::contents::Line;
@@ -54,7 +54,7 @@ pub struct UnknownKind(pub u8);
 impl TryFrom<u8> for CallKind {
     type Error = UnknownKind;
 
-    ghost try_from_gives = { λ n r. r ≡ call_kind n };
+    ghost try_from_gives = { λ n r. r ≡ kind_of_call n };
 
     fn try_from(n: u8) -> Result<CallKind, UnknownKind> {
         match n {
@@ -71,6 +71,13 @@ impl TryFrom<u8> for CallKind {
             _ => Err(UnknownKind(n)),
         }
     }
+}
+
+// The kind that any number stands for: one that no kind has stands for the last. A script is judged by `try_from`.
+pub fn call_kind(n: u8) -> CallKind
+    ensures { result ≡ call_kind n }
+{
+    CallKind::try_from(n).unwrap_or(CallKind::ReadRegister)
 }
 
 // The entry of an append or a search.

@@ -1,4 +1,5 @@
-// Document 01, "Request", rule 3: the entry that is chosen.
+// Document 01, "Request", rule 3: the entry that is chosen. Document 01 names both forms: an enum of a priority place, an overflow place
+// or nothing, and a labelled search over the two lists. A list is a number here, as it is in an entry.
 ghost use Rattle.std.specs.Prelude.{◌≡◌};
 ghost use Rattle.requests.specs.Choice.{is_in, is_candidate, choice_in, choose};
 
