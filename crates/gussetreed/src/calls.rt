@@ -7,6 +7,7 @@ ghost use Rattle.gussetreed.specs.Replies.{NewTold, AppendTold, UnlinkTold, Sear
 
 use crate::layout::{EventReply, Reply};
 use crate::replies;
+use crate::replies::Tell;
 use matching::layout::{Entry, Request};
 use portals::{append, counters, events, making, poll, put_get, registers, search, unlink};
 use state::layout::{CounterChange, CounterTest, Settings, Target};
@@ -25,7 +26,7 @@ pub extern "C" fn gussetreed_new(place: &mut Target, s: Settings) -> Reply
 pub extern "C" fn gussetreed_append(t: &mut Target, e: Entry) -> Reply
     ensures { AppendTold t.old e (record { target = t.new; answer = result }) }
 {
-    replies::append_reply(append::append(t, e))
+    append::append(t, e).tell()
 }
 
 // Unlinks an entry by its handle: DONE.
@@ -33,7 +34,7 @@ pub extern "C" fn gussetreed_append(t: &mut Target, e: Entry) -> Reply
 pub extern "C" fn gussetreed_unlink(t: &mut Target, handle: u32) -> Reply
     ensures { UnlinkTold t.old handle (record { target = t.new; answer = result }) }
 {
-    replies::plain_reply(unlink::unlink(t, handle))
+    unlink::unlink(t, handle).tell()
 }
 
 // Searches the unexpected headers; the entry has the mode, 0 look or 1 delete, in place of the list: SEARCHED.
@@ -41,7 +42,7 @@ pub extern "C" fn gussetreed_unlink(t: &mut Target, handle: u32) -> Reply
 pub extern "C" fn gussetreed_search(t: &mut Target, e: Entry) -> Reply
     ensures { SearchTold t.old e (record { target = t.new; answer = result }) }
 {
-    replies::search_reply(search::search(t, e))
+    search::search(t, e).tell()
 }
 
 // Takes a put: PRIORITY, OVERFLOW, DROPPED, PERM or OP. Of the slices only the memory may be written.
@@ -54,7 +55,7 @@ pub extern "C" fn gussetreed_put(
 ) -> Reply
     ensures { PutTold t.old memory.old q payload.now (record { target = t.new; answer = result }) memory.new }
 {
-    replies::request_reply(put_get::put(t, memory, q, payload))
+    put_get::put(t, memory, q, payload).tell()
 }
 
 // Takes a get: the answers of a put. Of the slices only the buffer may be written, from its start on.
@@ -67,7 +68,7 @@ pub extern "C" fn gussetreed_get(
 ) -> Reply
     ensures { GetTold t.old memory.now q buffer.old (record { target = t.new; answer = result }) buffer.new }
 {
-    replies::request_reply(put_get::get(t, memory, q, buffer))
+    put_get::get(t, memory, q, buffer).tell()
 }
 
 // Takes the oldest event from the queue: EVENT or NONE.
@@ -83,7 +84,7 @@ pub extern "C" fn gussetreed_read_event(t: &mut Target) -> EventReply
 pub extern "C" fn gussetreed_set_counter(t: &mut Target, x: CounterChange) -> Reply
     ensures { SetCounterTold t.old x (record { target = t.new; answer = result }) }
 {
-    replies::plain_reply(counters::set_counter(t, x))
+    counters::set_counter(t, x).tell()
 }
 
 // Adds to both fields of a counter, modulo 2^64: DONE.
@@ -91,7 +92,7 @@ pub extern "C" fn gussetreed_set_counter(t: &mut Target, x: CounterChange) -> Re
 pub extern "C" fn gussetreed_increment(t: &mut Target, x: CounterChange) -> Reply
     ensures { IncrementTold t.old x (record { target = t.new; answer = result }) }
 {
-    replies::plain_reply(counters::increment(t, x))
+    counters::increment(t, x).tell()
 }
 
 // Reads a counter: COUNTER.
@@ -99,7 +100,7 @@ pub extern "C" fn gussetreed_increment(t: &mut Target, x: CounterChange) -> Repl
 pub extern "C" fn gussetreed_read_counter(t: &Target, k: u64) -> Reply
     ensures { ReadCounterTold t.now k result }
 {
-    replies::counter_reply(counters::read_counter(t, k))
+    counters::read_counter(t, k).tell()
 }
 
 // Reads a register, 0 drop, 1 permission, 2 operation: REGISTER.
@@ -107,7 +108,7 @@ pub extern "C" fn gussetreed_read_counter(t: &Target, k: u64) -> Reply
 pub extern "C" fn gussetreed_read_register(t: &Target, k: u64) -> Reply
     ensures { ReadRegisterTold t.now k result }
 {
-    replies::register_reply(registers::read_register(t, k))
+    registers::read_register(t, k).tell()
 }
 
 // Tests a counter: READY or NOT_READY.
@@ -115,7 +116,7 @@ pub extern "C" fn gussetreed_read_register(t: &Target, k: u64) -> Reply
 pub extern "C" fn gussetreed_ready(t: &Target, x: CounterTest) -> Reply
     ensures { ReadyTold t.now x result }
 {
-    replies::ready_reply(counters::ready(t, x))
+    counters::ready(t, x).tell()
 }
 
 // Polls a list of counters, each with the test at its place in another list: REACHED or NONE_REACHED.
@@ -123,5 +124,5 @@ pub extern "C" fn gussetreed_ready(t: &Target, x: CounterTest) -> Reply
 pub extern "C" fn gussetreed_poll(t: &Target, ks: &[u64], tests: &[u64]) -> Reply
     ensures { PollTold t.now ks.now tests.now result }
 {
-    replies::poll_reply(poll::poll(t, ks, tests))
+    poll::poll(t, ks, tests).tell()
 }

@@ -1,6 +1,6 @@
 // The answers of the calls as numbers: C's interface has no enum.
-ghost use Rattle.std.specs.Prelude.{◌≡◌};
-ghost use Rattle.portals.specs.Answers.{refused, new_answer, append_answer, plain_answer, search_answer, request_answer, event_answer, counter_answer, register_answer, ready_answer, poll_answer};
+ghost use Rattle.std.specs.Prelude.{◌≡◌, cond};
+ghost use Rattle.portals.specs.Answers.{Answer, DONE, SEARCHED, COUNTER, REGISTER, READY, NOT_READY, refused, answered, new_answer, appended_as, taken_as, read_as, event_answer, reached_answer};
 ghost use Rattle.gussetreed.specs.Replies.{reply, reply_of, event_reply_of};
 
 use crate::layout;
@@ -8,6 +8,14 @@ use crate::layout::{EventReply, Reply};
 use matching::refusals::Refusal;
 use portals::answers::{Appended, RequestAnswer};
 use state::layout::{Counter, Event};
+
+// An answer, which is told by what it means in document 01's words.
+pub(crate) trait Tell {
+    ghost means: { Self → Answer };
+
+    fn tell(self) -> Reply
+        ensures { result ≡ reply_of (means self) };
+}
 
 // An answer with its code and values.
 fn reply(answer: u32, code: u32, value: u64, second: u64) -> Reply
@@ -21,110 +29,137 @@ fn reply(answer: u32, code: u32, value: u64, second: u64) -> Reply
     }
 }
 
-// A refusal gives its number only.
-fn refusal_reply(refusal: Refusal) -> Reply
-    ensures { result ≡ reply_of (refused refusal) }
-{
-    reply(layout::REFUSED, u32::from(refusal), 0, 0)
+impl<A: Tell> Tell for Result<A, Refusal> {
+    ghost means = { answered A.means };
+
+    fn tell(self) -> Reply {
+        match self {
+            Ok(a) => a.tell(),
+            Err(refusal) => refusal.tell(),
+        }
+    }
 }
 
+// A refusal gives its number only.
+impl Tell for Refusal {
+    ghost means = { refused };
+
+    fn tell(self) -> Reply {
+        reply(layout::REFUSED, u32::from(self), 0, 0)
+    }
+}
+
+impl Tell for Appended {
+    ghost means = { appended_as };
+
+    fn tell(self) -> Reply {
+        match self {
+            Appended::Linked(handle) => reply(layout::LINKED, 0, handle as u64, 0),
+            Appended::Taken => reply(layout::TAKEN, 0, 0, 0),
+        }
+    }
+}
+
+// Of an unlink, a counter that is set and one that is incremented.
+impl Tell for () {
+    ghost means = { λ u. DONE };
+
+    fn tell(self) -> Reply {
+        reply(layout::DONE, 0, 0, 0)
+    }
+}
+
+// Of a search: how many.
+impl Tell for usize {
+    ghost means = { SEARCHED };
+
+    fn tell(self) -> Reply {
+        reply(layout::SEARCHED, 0, self as u64, 0)
+    }
+}
+
+impl Tell for RequestAnswer {
+    ghost means = { taken_as };
+
+    fn tell(self) -> Reply {
+        match self {
+            RequestAnswer::Priority {
+                length,
+                offset,
+                ack,
+            } => reply(layout::PRIORITY, ack as u32, length as u64, offset),
+            RequestAnswer::Overflow {
+                length,
+                offset,
+                ack,
+            } => reply(layout::OVERFLOW, ack as u32, length as u64, offset),
+            RequestAnswer::Dropped(ack) => reply(layout::DROPPED, ack as u32, 0, 0),
+            RequestAnswer::PermissionViolation(ack) => reply(layout::PERM, ack as u32, 0, 0),
+            RequestAnswer::OperationViolation(ack) => reply(layout::OP, ack as u32, 0, 0),
+        }
+    }
+}
+
+impl Tell for Counter {
+    ghost means = { λ c. COUNTER c.success c.failure };
+
+    fn tell(self) -> Reply {
+        reply(layout::COUNTER, 0, self.success, self.failure)
+    }
+}
+
+// Of a register: its value.
+impl Tell for u64 {
+    ghost means = { REGISTER };
+
+    fn tell(self) -> Reply {
+        reply(layout::REGISTER, 0, self, 0)
+    }
+}
+
+// Of a counter's test.
+impl Tell for bool {
+    ghost means = { λ passed. cond passed READY NOT_READY };
+
+    fn tell(self) -> Reply {
+        match self {
+            true => reply(layout::READY, 0, 0, 0),
+            false => reply(layout::NOT_READY, 0, 0, 0),
+        }
+    }
+}
+
+// Of a poll: the place that is reached.
+impl Tell for Option<usize> {
+    ghost means = { reached_answer };
+
+    fn tell(self) -> Reply {
+        match self {
+            Some(place) => reply(layout::REACHED, 0, place as u64, 0),
+            None => reply(layout::NONE_REACHED, 0, 0, 0),
+        }
+    }
+}
+
+// Of an event read; the event itself stands beside it, in `event_reply`.
+impl Tell for Option<Event> {
+    ghost means = { read_as };
+
+    fn tell(self) -> Reply {
+        match self {
+            Some(_) => reply(layout::EVENT, 0, 0, 0),
+            None => reply(layout::NONE, 0, 0, 0),
+        }
+    }
+}
+
+// Of `new`, whose `()` is MADE and not DONE.
 pub fn new_reply(a: Result<(), Refusal>) -> Reply
     ensures { result ≡ reply_of (new_answer a) }
 {
     match a {
         Ok(()) => reply(layout::MADE, 0, 0, 0),
-        Err(refusal) => refusal_reply(refusal),
-    }
-}
-
-pub fn append_reply(a: Result<Appended, Refusal>) -> Reply
-    ensures { result ≡ reply_of (append_answer a) }
-{
-    match a {
-        Ok(Appended::Linked(handle)) => reply(layout::LINKED, 0, handle as u64, 0),
-        Ok(Appended::Taken) => reply(layout::TAKEN, 0, 0, 0),
-        Err(refusal) => refusal_reply(refusal),
-    }
-}
-
-pub fn plain_reply(a: Result<(), Refusal>) -> Reply
-    ensures { result ≡ reply_of (plain_answer a) }
-{
-    match a {
-        Ok(()) => reply(layout::DONE, 0, 0, 0),
-        Err(refusal) => refusal_reply(refusal),
-    }
-}
-
-pub fn search_reply(a: Result<usize, Refusal>) -> Reply
-    ensures { result ≡ reply_of (search_answer a) }
-{
-    match a {
-        Ok(n) => reply(layout::SEARCHED, 0, n as u64, 0),
-        Err(refusal) => refusal_reply(refusal),
-    }
-}
-
-pub fn request_reply(a: Result<RequestAnswer, Refusal>) -> Reply
-    ensures { result ≡ reply_of (request_answer a) }
-{
-    match a {
-        Ok(
-            RequestAnswer::Priority {
-                length,
-                offset,
-                ack,
-            },
-        ) => reply(layout::PRIORITY, ack as u32, length as u64, offset),
-        Ok(
-            RequestAnswer::Overflow {
-                length,
-                offset,
-                ack,
-            },
-        ) => reply(layout::OVERFLOW, ack as u32, length as u64, offset),
-        Ok(RequestAnswer::Dropped(ack)) => reply(layout::DROPPED, ack as u32, 0, 0),
-        Ok(RequestAnswer::PermissionViolation(ack)) => reply(layout::PERM, ack as u32, 0, 0),
-        Ok(RequestAnswer::OperationViolation(ack)) => reply(layout::OP, ack as u32, 0, 0),
-        Err(refusal) => refusal_reply(refusal),
-    }
-}
-
-pub fn counter_reply(a: Result<Counter, Refusal>) -> Reply
-    ensures { result ≡ reply_of (counter_answer a) }
-{
-    match a {
-        Ok(c) => reply(layout::COUNTER, 0, c.success, c.failure),
-        Err(refusal) => refusal_reply(refusal),
-    }
-}
-
-pub fn register_reply(a: Result<u64, Refusal>) -> Reply
-    ensures { result ≡ reply_of (register_answer a) }
-{
-    match a {
-        Ok(n) => reply(layout::REGISTER, 0, n, 0),
-        Err(refusal) => refusal_reply(refusal),
-    }
-}
-
-pub fn ready_reply(a: Result<bool, Refusal>) -> Reply
-    ensures { result ≡ reply_of (ready_answer a) }
-{
-    match a {
-        Ok(true) => reply(layout::READY, 0, 0, 0),
-        Ok(false) => reply(layout::NOT_READY, 0, 0, 0),
-        Err(refusal) => refusal_reply(refusal),
-    }
-}
-
-pub fn poll_reply(a: Result<Option<usize>, Refusal>) -> Reply
-    ensures { result ≡ reply_of (poll_answer a) }
-{
-    match a {
-        Ok(Some(place)) => reply(layout::REACHED, 0, place as u64, 0),
-        Ok(None) => reply(layout::NONE_REACHED, 0, 0, 0),
-        Err(refusal) => refusal_reply(refusal),
+        Err(refusal) => refusal.tell(),
     }
 }
 
@@ -132,14 +167,14 @@ pub fn poll_reply(a: Result<Option<usize>, Refusal>) -> Reply
 pub fn event_reply(a: Result<Option<Event>, Refusal>) -> EventReply
     ensures { result ≡ event_reply_of (event_answer a) }
 {
-    let (r, event) = match a {
-        Ok(Some(event)) => (reply(layout::EVENT, 0, 0, 0), event),
-        Ok(None) => (reply(layout::NONE, 0, 0, 0), Event::default()),
-        Err(refusal) => (refusal_reply(refusal), Event::default()),
+    let event = match a {
+        Ok(Some(event)) => event,
+        _ => Event::default(),
     };
+    let Reply { answer, code, .. } = a.tell();
     EventReply {
-        answer: r.answer,
-        code: r.code,
+        answer,
+        code,
         event,
     }
 }

@@ -10,15 +10,13 @@ use portals::answers::{Appended, Done, RequestAnswer};
 use portals::{append, counters, events, making, poll, put_get, registers, search, unlink};
 use state::layout::{Counter, CounterChange, CounterTest, Event, Settings, Target};
 
-// A call on the copy that was handed over. Put and get do so in lines of their own: what a call leaves of a slice that its closure has
-// captured was not proved.
-fn on_copy<A, F: FnOnce(&mut Target) -> A>(t: Target, call: F) -> Done<A>
+// A call in place, made on a copy of the target: the copy is handed back as the call leaves it.
+fn on_copy<A, F: FnOnce(&mut Target) -> A>(mut t: Target, call: F) -> Done<A>
     requires { F.IsAlwaysCallable call }
     ensures { FnOnceReturnsAtMut F.FnOnce call t result.answer result.target }
 {
-    let mut target = t;
-    let answer = call(&mut target);
-    Done { target, answer }
+    let answer = call(&mut t);
+    Done { target: t, answer }
 }
 
 // Makes a target: beside a refusal, one of size 0.
@@ -46,36 +44,35 @@ pub fn search(t: Target, e: Entry) -> Done<Result<usize, Refusal>>
     on_copy(t, |t| search::search(t, e))
 }
 
+// Written out, as `get` is: what a call leaves of a slice that its closure has captured was not proved.
 pub fn put(
-    t: Target,
+    mut t: Target,
     memory: &mut [u8],
     q: Request,
     payload: &[u8],
 ) -> Done<Result<RequestAnswer, Refusal>>
     ensures { PutMet t memory.old q payload.now result memory.new }
 {
-    let mut target = t;
-    let answer = put_get::put(&mut target, memory, q, payload);
-    Done { target, answer }
+    let answer = put_get::put(&mut t, memory, q, payload);
+    Done { target: t, answer }
 }
 
 pub fn get(
-    t: Target,
+    mut t: Target,
     memory: &[u8],
     q: Request,
     reply: &mut [u8],
 ) -> Done<Result<RequestAnswer, Refusal>>
     ensures { GetMet t memory.now q reply.old result reply.new }
 {
-    let mut target = t;
-    let answer = put_get::get(&mut target, memory, q, reply);
-    Done { target, answer }
+    let answer = put_get::get(&mut t, memory, q, reply);
+    Done { target: t, answer }
 }
 
 pub fn read_event(t: Target) -> Done<Result<Option<Event>, Refusal>>
     ensures { ReadEventMet t result }
 {
-    on_copy(t, |t| events::read_event(t))
+    on_copy(t, events::read_event)
 }
 
 pub fn set_counter(t: Target, x: CounterChange) -> Done<Result<(), Refusal>>

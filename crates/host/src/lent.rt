@@ -8,43 +8,46 @@ ghost use Rattle.portals.specs.Promises.{NewMet, AppendMet, UnlinkMet, SearchMet
 use crate::by_value;
 use matching::layout::{Entry, Request};
 use matching::refusals::Refusal;
-use portals::answers::{Appended, RequestAnswer};
+use portals::answers::{Appended, Done, RequestAnswer};
 use state::layout::{Counter, CounterChange, CounterTest, Event, Settings, Target};
+
+// A call by value, made on what a lent target holds: the state that comes back is stored there.
+fn on_lent<A, F: FnOnce(Target) -> Done<A>>(t: &mut Target, call: F) -> A
+    requires { F.IsAlwaysCallable call }
+    ensures { F.post call t.old (record { target = t.new; answer = result }) }
+{
+    let r = call(*t);
+    *t = r.target;
+    r.answer
+}
 
 // Makes a target in a place that its caller lends. What the place held is not read, and is lost: beside a refusal too, where a target
 // of size 0 comes to stand there.
 pub fn new(place: &mut Target, s: Settings) -> Result<(), Refusal>
     ensures { NewMet s (record { target = place.new; answer = result }) }
 {
-    let r = by_value::new(s);
-    *place = r.target;
-    r.answer
+    on_lent(place, |_| by_value::new(s))
 }
 
 pub fn append(t: &mut Target, e: Entry) -> Result<Appended, Refusal>
     ensures { AppendMet t.old e (record { target = t.new; answer = result }) }
 {
-    let r = by_value::append(*t, e);
-    *t = r.target;
-    r.answer
+    on_lent(t, |t| by_value::append(t, e))
 }
 
 pub fn unlink(t: &mut Target, handle: u32) -> Result<(), Refusal>
     ensures { UnlinkMet t.old handle (record { target = t.new; answer = result }) }
 {
-    let r = by_value::unlink(*t, handle);
-    *t = r.target;
-    r.answer
+    on_lent(t, |t| by_value::unlink(t, handle))
 }
 
 pub fn search(t: &mut Target, e: Entry) -> Result<usize, Refusal>
     ensures { SearchMet t.old e (record { target = t.new; answer = result }) }
 {
-    let r = by_value::search(*t, e);
-    *t = r.target;
-    r.answer
+    on_lent(t, |t| by_value::search(t, e))
 }
 
+// Written out, as `get` is, for the reason that `put` of `by_value` gives.
 pub fn put(
     t: &mut Target,
     memory: &mut [u8],
@@ -74,25 +77,19 @@ pub fn get(
 pub fn read_event(t: &mut Target) -> Result<Option<Event>, Refusal>
     ensures { ReadEventMet t.old (record { target = t.new; answer = result }) }
 {
-    let r = by_value::read_event(*t);
-    *t = r.target;
-    r.answer
+    on_lent(t, by_value::read_event)
 }
 
 pub fn set_counter(t: &mut Target, x: CounterChange) -> Result<(), Refusal>
     ensures { SetCounterMet t.old x (record { target = t.new; answer = result }) }
 {
-    let r = by_value::set_counter(*t, x);
-    *t = r.target;
-    r.answer
+    on_lent(t, |t| by_value::set_counter(t, x))
 }
 
 pub fn increment(t: &mut Target, x: CounterChange) -> Result<(), Refusal>
     ensures { IncrementMet t.old x (record { target = t.new; answer = result }) }
 {
-    let r = by_value::increment(*t, x);
-    *t = r.target;
-    r.answer
+    on_lent(t, |t| by_value::increment(t, x))
 }
 
 pub fn read_counter(t: &Target, k: u64) -> Result<Counter, Refusal>

@@ -40,16 +40,16 @@ impl Pair {
         let a = lent::append(&mut self.lent, e);
         let b = by_value::append(self.value, e);
         self.value = b.target;
-        said::say_append(self.stdout, b"lent  ", k, a)?;
-        said::say_append(self.stdout, b"value ", k, b.answer)
+        said::say_answer(self.stdout, b"lent  ", k, a)?;
+        said::say_answer(self.stdout, b"value ", k, b.answer)
     }
 
     pub fn put(&mut self, k: usize, q: Request, payload: &[u8]) -> io::Result<()> {
         let a = lent::put(&mut self.lent, &mut self.lent_memory, q, payload);
         let b = by_value::put(self.value, &mut self.value_memory, q, payload);
         self.value = b.target;
-        said::say_put(self.stdout, b"lent  ", k, a)?;
-        said::say_put(self.stdout, b"value ", k, b.answer)
+        said::say_answer(self.stdout, b"lent  ", k, a)?;
+        said::say_answer(self.stdout, b"value ", k, b.answer)
     }
 
     pub fn ready(&self, k: usize, test: CounterTest) -> io::Result<()> {

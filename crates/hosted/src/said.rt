@@ -3,36 +3,25 @@
 ghost use Rattle.std.specs.Prelude.{◌+◌, ◌*◌, ◌≤◌, length};
 
 use matching::refusals::Refusal;
-use portals::answers::{Appended, RequestAnswer};
 use printer::said;
+use printer::said::Say;
 use std::io;
 use std::io::Stdout;
 use text::writing::Writer;
 
 // How the call was made, and its line.
-fn say(stdout: Stdout, way: &[u8], line: &[u8]) -> io::Result<()> {
+fn print_line(stdout: Stdout, way: &[u8], line: &[u8]) -> io::Result<()> {
     stdout.write_all(way)?;
     stdout.write_all(line)?;
     stdout.write_all(b"\n")
 }
 
-pub fn say_append(
-    stdout: Stdout,
-    way: &[u8],
-    k: usize,
-    a: Result<Appended, Refusal>,
-) -> io::Result<()> {
+// An answer that a printout has.
+pub fn say_answer<A: Say>(stdout: Stdout, way: &[u8], k: usize, answer: A) -> io::Result<()> {
     let mut out = [0u8; 400];
     let mut w = Writer::new(&mut out);
-    said::append_said(&mut w, k, a);
-    say(stdout, way, w.written())
-}
-
-fn say_refused(stdout: Stdout, way: &[u8], k: usize, refusal: Refusal) -> io::Result<()> {
-    let mut out = [0u8; 400];
-    let mut w = Writer::new(&mut out);
-    said::plain_said(&mut w, k, Err(refusal));
-    say(stdout, way, w.written())
+    answer.say(&mut w, k);
+    print_line(stdout, way, w.written())
 }
 
 // A word, and numbers behind it.
@@ -42,25 +31,13 @@ fn say_word(stdout: Stdout, way: &[u8], k: usize, word: &[u8], numbers: &[u64]) 
     let mut out = [0u8; 400];
     let mut w = Writer::new(&mut out);
     said::put_said(&mut w, k, word, numbers);
-    say(stdout, way, w.written())
-}
-
-pub fn say_put(
-    stdout: Stdout,
-    way: &[u8],
-    k: usize,
-    a: Result<RequestAnswer, Refusal>,
-) -> io::Result<()> {
-    let mut out = [0u8; 400];
-    let mut w = Writer::new(&mut out);
-    said::request_said(&mut w, k, a);
-    say(stdout, way, w.written())
+    print_line(stdout, way, w.written())
 }
 
 pub fn say_new(stdout: Stdout, way: &[u8], k: usize, a: Result<(), Refusal>) -> io::Result<()> {
     match a {
         Ok(()) => say_word(stdout, way, k, b" MADE", &[]),
-        Err(refusal) => say_refused(stdout, way, k, refusal),
+        Err(refusal) => say_answer(stdout, way, k, refusal),
     }
 }
 
@@ -68,7 +45,7 @@ pub fn say_ready(stdout: Stdout, way: &[u8], k: usize, a: Result<bool, Refusal>)
     match a {
         Ok(true) => say_word(stdout, way, k, b" READY", &[]),
         Ok(false) => say_word(stdout, way, k, b" NOT_READY", &[]),
-        Err(refusal) => say_refused(stdout, way, k, refusal),
+        Err(refusal) => say_answer(stdout, way, k, refusal),
     }
 }
 
@@ -81,6 +58,6 @@ pub fn say_poll(
     match a {
         Ok(Some(place)) => say_word(stdout, way, k, b" REACHED", &[place as u64]),
         Ok(None) => say_word(stdout, way, k, b" NONE_REACHED", &[]),
-        Err(refusal) => say_refused(stdout, way, k, refusal),
+        Err(refusal) => say_answer(stdout, way, k, refusal),
     }
 }

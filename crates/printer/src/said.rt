@@ -6,7 +6,7 @@ ghost use Rattle.text.specs.Text.{decimal_of, fields_of};
 ghost use Rattle.text.specs.Writing.{Room, Wrote};
 ghost use Rattle.matching.specs.Refusals.{refusal_number};
 ghost use Rattle.matching.specs.Kinds.{event_kind, fail_type};
-ghost use Rattle.portals.specs.Answers.{refused, append_answer, plain_answer, search_answer, request_answer, event_answer, counter_answer, register_answer, EVENT};
+ghost use Rattle.portals.specs.Answers.{Answer, DONE, SEARCHED, EVENT, COUNTER, REGISTER, refused, answered, appended_as, taken_as, read_as, request_answer};
 ghost use Rattle.printer.specs.Said.{SAID, said, refusal_text, kind_text, fail_text, event_source, event_message, shown_text, shown_of};
 
 use matching::events::{EventKind, FailType};
@@ -14,6 +14,16 @@ use matching::refusals::Refusal;
 use portals::answers::{Appended, RequestAnswer};
 use state::layout::{Counter, Event};
 use text::writing::Writer;
+
+// An answer, of which a line says what it means in document 01's words.
+pub trait Say {
+    ghost means: { Self → Answer };
+
+    // Writes the number of a call, and the answer.
+    fn say(self, w: &mut Writer, k: usize)
+        requires { Room w.old SAID }
+        ensures { Wrote w.old (said k (means self)) SAID w.new };
+}
 
 // The number of a call, a word and numbers.
 pub fn put_said(w: &mut Writer, k: usize, word: &[u8], numbers: &[u64])
@@ -39,87 +49,90 @@ fn refusal_text(refusal: Refusal) -> &'static [u8]
     }
 }
 
-fn refusal_said(w: &mut Writer, k: usize, refusal: Refusal)
-    requires { Room w.old SAID }
-    ensures { Wrote w.old (said k (refused refusal)) SAID w.new }
-{
-    put_said(w, k, refusal_text(refusal), &[])
-}
+impl<A: Say> Say for Result<A, Refusal> {
+    ghost means = { answered A.means };
 
-pub fn append_said(w: &mut Writer, k: usize, a: Result<Appended, Refusal>)
-    requires { Room w.old SAID }
-    ensures { Wrote w.old (said k (append_answer a)) SAID w.new }
-{
-    match a {
-        Ok(Appended::Linked(handle)) => put_said(w, k, b" LINKED", &[handle as u64]),
-        Ok(Appended::Taken) => put_said(w, k, b" TAKEN", &[]),
-        Err(refusal) => refusal_said(w, k, refusal),
+    fn say(self, w: &mut Writer, k: usize) {
+        match self {
+            Ok(a) => a.say(w, k),
+            Err(refusal) => refusal.say(w, k),
+        }
     }
 }
 
-pub fn plain_said(w: &mut Writer, k: usize, a: Result<(), Refusal>)
-    requires { Room w.old SAID }
-    ensures { Wrote w.old (said k (plain_answer a)) SAID w.new }
-{
-    match a {
-        Ok(()) => put_said(w, k, b" DONE", &[]),
-        Err(refusal) => refusal_said(w, k, refusal),
+impl Say for Refusal {
+    ghost means = { refused };
+
+    fn say(self, w: &mut Writer, k: usize) {
+        put_said(w, k, refusal_text(self), &[])
     }
 }
 
-pub fn search_said(w: &mut Writer, k: usize, a: Result<usize, Refusal>)
-    requires { Room w.old SAID }
-    ensures { Wrote w.old (said k (search_answer a)) SAID w.new }
-{
-    match a {
-        Ok(n) => put_said(w, k, b" SEARCHED", &[n as u64]),
-        Err(refusal) => refusal_said(w, k, refusal),
+impl Say for Appended {
+    ghost means = { appended_as };
+
+    fn say(self, w: &mut Writer, k: usize) {
+        match self {
+            Appended::Linked(handle) => put_said(w, k, b" LINKED", &[handle as u64]),
+            Appended::Taken => put_said(w, k, b" TAKEN", &[]),
+        }
     }
 }
 
-pub fn request_said(w: &mut Writer, k: usize, a: Result<RequestAnswer, Refusal>)
-    requires { Room w.old SAID }
-    ensures { Wrote w.old (said k (request_answer a)) SAID w.new }
-{
-    match a {
-        Ok(
+// Of an unlink, a counter that is set and one that is incremented.
+impl Say for () {
+    ghost means = { λ u. DONE };
+
+    fn say(self, w: &mut Writer, k: usize) {
+        put_said(w, k, b" DONE", &[])
+    }
+}
+
+// Of a search: how many.
+impl Say for usize {
+    ghost means = { SEARCHED };
+
+    fn say(self, w: &mut Writer, k: usize) {
+        put_said(w, k, b" SEARCHED", &[self as u64])
+    }
+}
+
+impl Say for RequestAnswer {
+    ghost means = { taken_as };
+
+    fn say(self, w: &mut Writer, k: usize) {
+        match self {
             RequestAnswer::Priority {
                 length,
                 offset,
                 ack,
-            },
-        ) => put_said(w, k, b" PRIORITY", &[length as u64, offset, ack as u64]),
-        Ok(
+            } => put_said(w, k, b" PRIORITY", &[length as u64, offset, ack as u64]),
             RequestAnswer::Overflow {
                 length,
                 offset,
                 ack,
-            },
-        ) => put_said(w, k, b" OVERFLOW", &[length as u64, offset, ack as u64]),
-        Ok(RequestAnswer::Dropped(ack)) => put_said(w, k, b" DROPPED", &[ack as u64]),
-        Ok(RequestAnswer::PermissionViolation(ack)) => put_said(w, k, b" PERM", &[ack as u64]),
-        Ok(RequestAnswer::OperationViolation(ack)) => put_said(w, k, b" OP", &[ack as u64]),
-        Err(refusal) => refusal_said(w, k, refusal),
+            } => put_said(w, k, b" OVERFLOW", &[length as u64, offset, ack as u64]),
+            RequestAnswer::Dropped(ack) => put_said(w, k, b" DROPPED", &[ack as u64]),
+            RequestAnswer::PermissionViolation(ack) => put_said(w, k, b" PERM", &[ack as u64]),
+            RequestAnswer::OperationViolation(ack) => put_said(w, k, b" OP", &[ack as u64]),
+        }
     }
 }
 
-pub fn counter_said(w: &mut Writer, k: usize, a: Result<Counter, Refusal>)
-    requires { Room w.old SAID }
-    ensures { Wrote w.old (said k (counter_answer a)) SAID w.new }
-{
-    match a {
-        Ok(c) => put_said(w, k, b" COUNTER", &[c.success, c.failure]),
-        Err(refusal) => refusal_said(w, k, refusal),
+impl Say for Counter {
+    ghost means = { λ c. COUNTER c.success c.failure };
+
+    fn say(self, w: &mut Writer, k: usize) {
+        put_said(w, k, b" COUNTER", &[self.success, self.failure])
     }
 }
 
-pub fn register_said(w: &mut Writer, k: usize, a: Result<u64, Refusal>)
-    requires { Room w.old SAID }
-    ensures { Wrote w.old (said k (register_answer a)) SAID w.new }
-{
-    match a {
-        Ok(n) => put_said(w, k, b" REGISTER", &[n]),
-        Err(refusal) => refusal_said(w, k, refusal),
+// Of a register: its value.
+impl Say for u64 {
+    ghost means = { REGISTER };
+
+    fn say(self, w: &mut Writer, k: usize) {
+        put_said(w, k, b" REGISTER", &[self])
     }
 }
 
@@ -196,14 +209,15 @@ fn put_event(w: &mut Writer, k: usize, e: &Event)
     put_event_message(w, e);
 }
 
-pub fn event_said(w: &mut Writer, k: usize, a: Result<Option<Event>, Refusal>)
-    requires { Room w.old SAID }
-    ensures { Wrote w.old (said k (event_answer a)) SAID w.new }
-{
-    match a {
-        Ok(Some(e)) => put_event(w, k, &e),
-        Ok(None) => put_said(w, k, b" NONE", &[]),
-        Err(refusal) => refusal_said(w, k, refusal),
+// Of an event read: the event with its fields and gap.
+impl Say for Option<Event> {
+    ghost means = { read_as };
+
+    fn say(self, w: &mut Writer, k: usize) {
+        match self {
+            Some(e) => put_event(w, k, &e),
+            None => put_said(w, k, b" NONE", &[]),
+        }
     }
 }
 
