@@ -10,6 +10,7 @@ ghost use Rattle.script.specs.Promises.{TEXT, LINE, CallRan, LineRan};
 use host::lent;
 use matching::layout::Request;
 use printer::said;
+use printer::said::Say;
 use reader::calls::Call;
 use state::layout::Target;
 use text::writing::Writer;
@@ -29,7 +30,7 @@ fn run_get(t: &mut Target, memory: &[u8], q: Request, asked: usize, k: usize, w:
     let mut zeros = zero_bytes();
     let reply = &mut zeros[..asked];
     let answer = lent::get(t, memory, q, reply);
-    said::request_said(w, k, answer);
+    answer.say(w, k);
     said::put_reply(w, answer, reply);
 }
 
@@ -39,18 +40,18 @@ fn run_call(t: &mut Target, memory: &mut [u8], script: &[u8], call: Call, k: usi
     ensures { CallRan (asked script.now call) t.old memory.old k w.old t.new memory.new w.new }
 {
     match call {
-        Call::Append(e) => said::append_said(w, k, lent::append(t, e)),
-        Call::Unlink(handle) => said::plain_said(w, k, lent::unlink(t, handle)),
+        Call::Append(e) => lent::append(t, e).say(w, k),
+        Call::Unlink(handle) => lent::unlink(t, handle).say(w, k),
         Call::Put { request, from, end } => {
-            said::request_said(w, k, lent::put(t, memory, request, &script[from..end]))
+            lent::put(t, memory, request, &script[from..end]).say(w, k)
         }
         Call::Get { request, length } => run_get(t, memory, request, length, k, w),
-        Call::ReadEvent => said::event_said(w, k, lent::read_event(t)),
-        Call::ReadCounter(n) => said::counter_said(w, k, lent::read_counter(t, n)),
-        Call::SetCounter(x) => said::plain_said(w, k, lent::set_counter(t, x)),
-        Call::Increment(x) => said::plain_said(w, k, lent::increment(t, x)),
-        Call::Search(e) => said::search_said(w, k, lent::search(t, e)),
-        Call::ReadRegister(n) => said::register_said(w, k, lent::read_register(t, n)),
+        Call::ReadEvent => lent::read_event(t).say(w, k),
+        Call::ReadCounter(n) => lent::read_counter(t, n).say(w, k),
+        Call::SetCounter(x) => lent::set_counter(t, x).say(w, k),
+        Call::Increment(x) => lent::increment(t, x).say(w, k),
+        Call::Search(e) => lent::search(t, e).say(w, k),
+        Call::ReadRegister(n) => lent::read_register(t, n).say(w, k),
     }
 }
 

@@ -15,5 +15,5 @@ returns c =
     let size : length (take asked c.zero_bytes-zeros.result) ≡ asked = rw zeros (length-replicate asked 0) in
     let ran =
     get-ran c.get-answer.ensures (runs.get _ c.get-answer.ensures) (omega (arith, c.requires.0, c.get-answer.auto.reply, size))
-    c.request_said.ensures c.put_reply.ensures in
+    c.say.ensures c.put_reply.ensures in
     rw zeros at ran
