@@ -1,4 +1,5 @@
-// The walk over the unexpected headers, oldest first. It is the same for an append and for both modes of a search.
+// The walk over the unexpected headers, oldest first. It is the same for an append and for both modes of a search. The definitions speak
+// of headers and an entry, and of whether a call walks: a struct of these would be no plainer.
 ghost use Rattle.std.specs.Prelude.{◌≡◌, cond, List, length, None, position};
 ghost use Rattle.early.specs.Walk.{arrival_in, fits_header, uses_once, walk_for, walk_if, found_once};
 ghost use Rattle.early.specs.Parts.{part, finds, walk_of, WalkInside, WalkFits, WalkHolds};
@@ -17,7 +18,7 @@ pub struct Walked {
     pub end: usize,
 }
 
-// The message of a header as it arrived.
+// The message of a header as it arrived. A header has more than that, so that no conversion is plainer.
 fn arrival_in(h: &Header) -> Arrival
     ensures { result ≡ arrival_in h.now }
 {

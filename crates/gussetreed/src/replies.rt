@@ -49,6 +49,7 @@ impl Tell for Refusal {
     }
 }
 
+// One `tell` over the answers that are numbers would be no plainer: each names its own constant.
 impl Tell for Appended {
     ghost means = { appended_as };
 

@@ -44,7 +44,8 @@ pub fn search(t: Target, e: Entry) -> Done<Result<usize, Refusal>>
     on_copy(t, |t| search::search(t, e))
 }
 
-// Written out, as `get` is: what a call leaves of a slice that its closure has captured was not proved.
+// Written out, as `get` is: what a call leaves of a slice that its closure has captured was not proved. The parameters are those that
+// document 01 names.
 pub fn put(
     mut t: Target,
     memory: &mut [u8],
@@ -105,6 +106,7 @@ pub fn ready(t: Target, x: CounterTest) -> Result<bool, Refusal>
     counters::ready(&t, x)
 }
 
+// Two lists, as document 01 names them.
 pub fn poll(t: Target, ks: &[u64], tests: &[u64]) -> Result<Option<usize>, Refusal>
     ensures { PollMet t ks.now tests.now result }
 {

@@ -110,6 +110,7 @@ pub fn ready(t: &Target, x: CounterTest) -> Result<bool, Refusal>
     by_value::ready(*t, x)
 }
 
+// Two lists, as document 01 names them.
 pub fn poll(t: &Target, ks: &[u64], tests: &[u64]) -> Result<Option<usize>, Refusal>
     ensures { PollMet t.now ks.now tests.now result }
 {

@@ -59,6 +59,7 @@ impl Pair {
         said::say_ready(self.stdout, b"value ", k, b)
     }
 
+    // Two lists, as document 01 names them.
     pub fn poll(&self, k: usize, ks: &[u64], tests: &[u64]) -> io::Result<()> {
         let a = lent::poll(&self.lent, ks, tests);
         let b = by_value::poll(self.value, ks, tests);

@@ -1,5 +1,6 @@
 // Prints an answer behind `lent` or `value`: as in a printout, and those of new, ready and poll, which no script has, as MADE, READY,
-// NOT_READY, REACHED and NONE_REACHED.
+// NOT_READY, REACHED and NONE_REACHED. A word is bytes and no `Display`: a struct of where a line goes, how the call was made and which
+// it is would be no plainer than the three.
 ghost use Rattle.std.specs.Prelude.{◌+◌, ◌*◌, ◌≤◌, length};
 
 use matching::refusals::Refusal;

@@ -9,7 +9,7 @@ pub enum Appended {
     Taken,
 }
 
-// Put and get.
+// Put and get. An ack is the number that the C interface names.
 #[derive(Clone, Copy)]
 pub enum RequestAnswer {
     Priority { length: u32, offset: u64, ack: u16 },

@@ -36,7 +36,7 @@ fn append_admitted(t: &Target, e: &Entry) -> Result<(), Refusal>
     Ok(())
 }
 
-// TAKEN where USE_ONCE has a fit, else LINKED with the next handle.
+// TAKEN where USE_ONCE has a fit, else LINKED with the next handle. The flag is the definition's: no other form of it is plainer.
 fn taken_or_linked(taken: bool, last: u32) -> Appended
     requires { last < LAST_HANDLE }
     ensures { result ≡ taken_or_linked taken last }
@@ -48,7 +48,7 @@ fn taken_or_linked(taken: bool, last: u32) -> Appended
     }
 }
 
-// What it does with the headers found.
+// What it does with the headers found. Only here is an answer a kind of handling: a `From` would be no plainer.
 fn append_handling(answer: Appended) -> Handling
     ensures { result ≡ append_handling answer }
 {

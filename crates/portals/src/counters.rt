@@ -22,7 +22,7 @@ fn is_ready(c: Counter, test: u64) -> bool
     (test <= c.success) | (c.failure != 0)
 }
 
-// Sets both fields of a counter.
+// Sets both fields of a counter. Two fields of three: a conversion would be no plainer.
 pub fn set_counter(t: &mut Target, x: CounterChange) -> Result<(), Refusal>
     ensures { SetCounterMet t.old x (record { target = t.new; answer = result }) }
 {
@@ -45,7 +45,7 @@ pub fn increment(t: &mut Target, x: CounterChange) -> Result<(), Refusal>
     Ok(())
 }
 
-// Reads both fields of a counter.
+// Reads both fields of a counter. A read of a register differs in its test and its part: one function over both would be no plainer.
 pub fn read_counter(t: &Target, k: u64) -> Result<Counter, Refusal>
     ensures { ReadCounterMet t.now k result }
 {

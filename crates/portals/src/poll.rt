@@ -27,7 +27,8 @@ fn test_lists(ks: &[u64], tests: &[u64]) -> Result<(), BadArgument>
     admission::test_argument(ks.len() == tests.len(), BadArgument::ListLength)
 }
 
-// "the lowest place whose success has reached its test, or NONE_REACHED": the search is left with the place.
+// "the lowest place whose success has reached its test, or NONE_REACHED": the search is left with the place. There are two lists, as
+// document 01 names them.
 fn lowest_reached(cs: &Counters, ks: &[u64], tests: &[u64]) -> Option<usize>
     requires { length ks.now ≡ length tests.now }
     ensures { result ≡ reached_from cs.now.slots 0 ks.now tests.now }

@@ -43,7 +43,7 @@ fn request_decided(
     Ok(decision::decide(t, q.portal, &a))
 }
 
-// PRIORITY or OVERFLOW, by the list of the chosen entry.
+// PRIORITY or OVERFLOW, by the list of the chosen entry. The ack is asked and given as the number of the C interface.
 fn answer_delivery(p: &Plan, kind: Kind, ack: u16) -> RequestAnswer
     ensures { taken_as result ≡ delivery_answer kind ack p.now }
 {
@@ -66,7 +66,7 @@ fn answer_delivery(p: &Plan, kind: Kind, ack: u16) -> RequestAnswer
     }
 }
 
-// What a request answers.
+// What a request answers. The ack is asked and given as the number of the C interface.
 fn answer_by(d: &Decision, kind: Kind, ack: u16) -> RequestAnswer
     ensures { taken_as result ≡ answer_by kind ack d.now }
 {

@@ -1,4 +1,5 @@
-// Document 01, "Script and printout": what a line of the printout says of a call: its number, and its answer.
+// Document 01, "Script and printout": what a line of the printout says of a call: its number, and its answer. There is no heap: text
+// goes into a fixed buffer, a name is bytes and no `Display`, whose promise has no bound, and a function says how much room it needs.
 #![tactic(auto, using(text::proofs::WritingLaws::shorter, text::proofs::WritingLaws::and_then), unfolding(crate::specs::Said::said))]
 
 ghost use Rattle.std.specs.Prelude.{◌≡◌, [], ◌++◌, ◌+◌, ◌*◌, ◌≤◌, length, take};
@@ -35,7 +36,7 @@ pub fn put_said(w: &mut Writer, k: usize, word: &[u8], numbers: &[u64])
     w.put_fields(numbers);
 }
 
-// "REFUSED name". A name is a text and no Display: the buffer is fixed, and what Display promises has no bound.
+// "REFUSED name".
 fn refusal_text(refusal: Refusal) -> &'static [u8]
     ensures text { result.now ++ fields_of [] ≡ refusal_text (refusal_number refusal) }
     ensures short { length result.now ≤ 20 }

@@ -1,4 +1,4 @@
-// Numbers in decimal, with no zeros in front.
+// Numbers in decimal, with no zeros in front. How much room a function needs differs, so that no one fact of it is plainer.
 ghost use Rattle.std.specs.Prelude.{◌*◌, length};
 ghost use Rattle.text.specs.Text.{decimal_of, field_of, fields_of};
 ghost use Rattle.text.specs.Writing.{Room, Wrote};
