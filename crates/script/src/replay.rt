@@ -15,9 +15,9 @@ use text::writing::Writer;
 // How far a printout is written.
 #[derive(Clone, Copy)]
 pub struct Report {
-    // How many of its bytes have come up to be handed to standard output: in the end all, written or not (`Replayed`).
+    // How many of its bytes have come up to be handed to standard output.
     pub bytes: usize,
-    // Standard output took all of them. Once it did not, nothing more is handed to it.
+    // Standard output took all of them. Once it did not, nothing more is handed to it; but `bytes` counts on, as `Replayed` says.
     pub written: bool,
 }
 
@@ -46,7 +46,7 @@ impl<'a> Printout<'a> {
         self.report.bytes += bytes.len();
     }
 
-    // The one line of a bad script.
+    // The one line of a bad script, in bytes as all lines are: a `write!` could fail.
     fn write_bad(&mut self, bad: BadScript)
         requires { (verdict_of self.old.script.now ≡ Err bad) × (self.old.report.bytes ≡ 0) }
         ensures { Replayed self.old.script.now self.new.report }
