@@ -10,8 +10,8 @@ use matching::request::Arrival;
 use matching::{early_messages, entry};
 use state::layout::Header;
 
-// How far a walk went: from the first header that fits up to `end`. Those between the two that fit are found, and all others are left.
-// Where none fits, both are the number of the headers.
+// How far a walk went: of the headers from the first that fits up to `end` those that fit are found, and all others are left, where
+// they wait. Where none is found, both are the number of the headers.
 #[derive(Clone, Copy)]
 pub struct Walked {
     pub first: usize,
@@ -59,8 +59,8 @@ fn first_fit(headers: &[Header], walks: bool, e: &Entry) -> Option<usize>
     }
 }
 
-// The walk of a call that walks: all that fit are found, or under USE_ONCE the first of them; the others are left. A call that does not
-// walk finds none and leaves all.
+// The walk of a call that walks: all that fit are found, or under USE_ONCE the first of them; the others are left. A call that does
+// not walk finds none and leaves all.
 pub fn walk_if(headers: &[Header], walks: bool, e: &Entry) -> Walked
     ensures { WalkHolds e.now headers.now result (walk_if walks e.now headers.now) }
 {
