@@ -5,15 +5,14 @@ use mathlib.Core.Bool.{Bool, true, false, not, cond, false≢true}
 use mathlib.Core.List.{List, [], ◌∷◌}
 use Prim.Native.Nat.{ℕ, ◌<◌}
 use native.Mathlib.Omega.{arith}
-use borrow.Author.Tests.{ltb-true, eqb-true}
-use lib.Dec.{eqb, ltb}
+use borrow.Author.Tests.{eqb-true}
+use lib.Dec.{eqb}
 use lib.ListN.{length}
 use Rattle.matching.specs.Entry.{is_counter}
 use Rattle.matching.specs.Refusals.{none_bad}
 use Rattle.matching.specs.declared.refusals.Refusal.{Refusal}
 use Rattle.matching.specs.declared.refusals.BadArgument.{BadArgument}
 use Rattle.state.specs.Lists.{every, any}
-use Rattle.state.specs.Sizes.{COUNTERS}
 use Rattle.state.specs.View.{View, view_of, entries_of, headers_of, is_linked_as}
 use Rattle.state.specs.Soundness.{names, is_sound}
 use Rattle.state.specs.declared.layout.Target.{Target}
@@ -22,7 +21,7 @@ use Rattle.state.proofs.SlotLaws.{in_use}
 use Rattle.state.proofs.SoundLaws.{good-both}
 use Rattle.portals.specs.Refusals.{Condition, good_arguments, unless_refused}
 use Rattle.portals.specs.Admission.{admission_if, admission, Admits}
-use Rattle.portals.specs.CounterCalls.{counter_tests, bad_poll_argument}
+use Rattle.portals.specs.CounterCalls.{bad_poll_argument}
 use Rattle.portals.specs.EarlyMessages.{bad_handle_argument, unlink_tests, Unlinks}
 use Rattle.portals.proofs.GuardLaws.{AllPassed, guard-cases}
 
@@ -105,11 +104,6 @@ module _ (t : Target) where
     }
 
 -- ## What the tests say
-
--- a call on a counter that was admitted has one
-pub counter-inside : (k : ℕ) (t : Target) → Ok tt ≡ admission (λ v. counter_tests k) t → k < COUNTERS
-counter-inside k t e =
-    ltb-true k COUNTERS (good-both (ltb k COUNTERS) (Ok tt) BadArgument.Counter (admitted-passed t (λ v. counter_tests k) e).0).0
 
 -- a poll that was admitted has lists of equal length
 pub lists-equal : (ks tests : List ℕ) (t : Target)
