@@ -58,6 +58,7 @@ pub fn put(
     Done { target: t, answer }
 }
 
+// The parameters are those that document 01 names.
 pub fn get(
     mut t: Target,
     memory: &[u8],

@@ -75,7 +75,8 @@ impl TryFrom<u8> for CallKind {
     }
 }
 
-// The kind that any number stands for: one that no kind has stands for the last. A script is judged by `try_from`.
+// The kind that any number stands for: one that no kind has stands for the last. A script is judged by `try_from`. No `From` stands
+// here beside the `TryFrom`: the two would be no plainer.
 pub fn call_kind(n: u8) -> CallKind
     ensures { result ≡ call_kind n }
 {

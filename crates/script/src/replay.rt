@@ -1,4 +1,5 @@
-// Document 01, "Script and printout": a whole script, judged, run on a new target with a memory of zeros, and printed line by line.
+// Document 01, "Script and printout": a whole script, judged, run on a new target with a memory of zeros, and printed line by
+// line.
 ghost use Rattle.std.specs.Prelude.{◌≡◌, Ok, Err, ◌+◌, length};
 ghost use Rattle.reader.specs.Judging.{verdict_of};
 ghost use Rattle.script.specs.Promises.{Next, Replayed};
@@ -12,7 +13,7 @@ use state::layout::{Settings, Target};
 use std::io::Stdout;
 use text::writing::Writer;
 
-// How far a printout is written.
+// How far a printout is written. Both are needed at once, and no buffer holds all of it: no other form is plainer.
 #[derive(Clone, Copy)]
 pub struct Report {
     // How many of its bytes have come up to be handed to standard output.
@@ -33,8 +34,8 @@ struct Printout<'a> {
 }
 
 impl<'a> Printout<'a> {
-    // Hands its next bytes to standard output. No contract says what a foreign call writes, so the `requires` says what may be handed
-    // to it: what the printout has behind the bytes that were handed over before.
+    // Hands its next bytes to standard output. No contract says what a foreign call writes, so the `requires` says what may be
+    // handed to it: what the printout has behind the bytes that were handed over before.
     fn write_next(&mut self, bytes: &[u8])
         requires { Next self.old.script.now self.old.report bytes.now }
         ensures file { self.new.script ≡ self.old.script }
@@ -46,7 +47,7 @@ impl<'a> Printout<'a> {
         self.report.bytes += bytes.len();
     }
 
-    // The one line of a bad script, in bytes as all lines are: a `write!` could fail.
+    // The one line of a bad script, in bytes as all lines are and no `Display`: a `write!` could fail where this cannot fail.
     fn write_bad(&mut self, bad: BadScript)
         requires { (verdict_of self.old.script.now ≡ Err bad) × (self.old.report.bytes ≡ 0) }
         ensures { Replayed self.old.script.now self.new.report }
@@ -65,8 +66,8 @@ impl<'a> Printout<'a> {
     }
 }
 
-// Runs a good script on the leading part of 16,384 zero bytes: no target of such a size is refused. The line of a call goes out before
-// the next call.
+// Runs a good script on the leading part of 16,384 zero bytes: no target of such a size is refused. The line of a call goes out
+// before the next call.
 fn run_lines(printout: &mut Printout)
     requires { (verdict_of printout.old.script.now ≡ Ok tt) × (printout.old.report.bytes ≡ 0) }
     ensures { Replayed printout.old.script.now printout.new.report }

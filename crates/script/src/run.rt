@@ -1,5 +1,5 @@
-// Document 01, "Script and printout": one call of a script, run and printed. The target is lent to each call: "thin functions take the
-// target by &mut, call the core and store the new state" (decision 64).
+// Document 01, "Script and printout": one call of a script, run and printed. The target is lent to each call: "thin functions
+// take the target by &mut, call the core and store the new state" (decision 64).
 ghost use Rattle.std.specs.Prelude.{◌≡◌, ◌≤◌, length, replicate};
 ghost use Rattle.text.specs.Writing.{Room};
 ghost use Rattle.reader.specs.Judging.{SCRIPT_MEMORY, CallFits};
@@ -22,7 +22,7 @@ pub(crate) fn zero_bytes() -> [u8; 16384]
     [0u8; 16384]
 }
 
-// A get for so many bytes. Its reply buffer is the leading part of 16,384 zero bytes.
+// A get for so many bytes. Its reply buffer is the leading part of 16,384 zero bytes, since there is no heap.
 fn run_get(t: &mut Target, memory: &[u8], q: Request, asked: usize, k: usize, w: &mut Writer)
     requires { (asked ≤ SCRIPT_MEMORY) × (Room w.old TEXT) }
     ensures { CallRan (Calls.get q (replicate asked 0)) t.old memory.now k w.old t.new memory.now w.new }
@@ -34,8 +34,8 @@ fn run_get(t: &mut Target, memory: &[u8], q: Request, asked: usize, k: usize, w:
     said::put_reply(w, answer, reply);
 }
 
-// Runs a call of a script. A put's payload is handed on as a part of the script. Each kind of call has arguments and an answer of its own,
-// so no table of functions would be plainer than the arms.
+// Runs a call of a script. A put's payload is handed on as a part of the script. Each kind of call has arguments and an answer of
+// its own, so no table of functions would be plainer than the arms.
 fn run_call(t: &mut Target, memory: &mut [u8], script: &[u8], call: Call, k: usize, w: &mut Writer)
     requires { (CallFits script.now call) × (Room w.old TEXT) }
     ensures { CallRan (asked script.now call) t.old memory.old k w.old t.new memory.new w.new }
