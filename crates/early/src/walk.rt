@@ -18,7 +18,8 @@ pub struct Walked {
     pub end: usize,
 }
 
-// The message of a header as it arrived. A header has more than that, so that no conversion is plainer.
+// The message of a header as it arrived. Neither type is of this crate, so no
+// `From` may stand here.
 fn arrival_in(h: &Header) -> Arrival
     ensures { result ≡ arrival_in h.now }
 {

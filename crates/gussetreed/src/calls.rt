@@ -1,5 +1,5 @@
 // Document 01: "The target's state stays with the caller, who lends it to each call." The calls as C sees them: each is the call of its
-// name in `portals`, with the answer as numbers.
+// name in `portals`, with the answer as numbers, and has a text of its own: C has no generic functions.
 //
 // A target is lent by a pointer, a slice is a pointer and a length, all else goes by value. What a caller owes is in the header,
 // include/gussetreed.h.

@@ -2,6 +2,6 @@
 #![tactic(auto)]
 
 pub mod calls;
-// For the C interface answers and refusals are numbers there.
+// For the C interface answers and refusals are numbers there, which the header for hosts has by name.
 pub mod layout;
 pub mod replies;

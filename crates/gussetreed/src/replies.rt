@@ -10,7 +10,7 @@ use portals::answers::{Appended, RequestAnswer};
 use state::layout::{Counter, Event};
 
 // An answer, which is told by what it means in document 01's words.
-pub(crate) trait Tell {
+pub trait Tell {
     ghost means: { Self → Answer };
 
     fn tell(self) -> Reply

@@ -1,6 +1,6 @@
 // The calls by value: each calls the one of its name in `portals` on the target that it is handed, and hands back the state that this
 // leaves beside the answer, after a refusal the very same state. What a call does is said at that call in `portals`, and the promise is
-// the one there.
+// the one there. Document 01 names this form: a core by value, and thin functions over it, which are in lent.rt.
 ghost use Rattle.std.specs.Fn.{FnOnceReturnsAtMut};
 ghost use Rattle.portals.specs.Promises.{NewMet, AppendMet, UnlinkMet, SearchMet, PutMet, GetMet, ReadEventMet, SetCounterMet, IncrementMet, ReadCounterMet, ReadRegisterMet, ReadyMet, PollMet};
 

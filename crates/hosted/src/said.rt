@@ -1,6 +1,6 @@
 // Prints an answer behind `lent` or `value`: as in a printout, and those of new, ready and poll, which no script has, as MADE, READY,
-// NOT_READY, REACHED and NONE_REACHED. A word is bytes and no `Display`: a struct of where a line goes, how the call was made and which
-// it is would be no plainer than the three.
+// NOT_READY, REACHED and NONE_REACHED. A word is bytes, as `put_said` takes it, and no `Display`. Each line
+// has another `way`, so that a struct of it and the others would be made for each and used once: it would be no plainer.
 ghost use Rattle.std.specs.Prelude.{◌+◌, ◌*◌, ◌≤◌, length};
 
 use matching::refusals::Refusal;

@@ -7,7 +7,8 @@ ghost use Rattle.portals.specs.Admission.{Admits};
 use matching::refusals::{BadArgument, Refusal};
 use state::layout::Target;
 
-// The test of an argument, where it is the only one: a condition, and the argument that is bad without it. No other form is plainer.
+// The test of an argument, where it is the only one: a condition, and the argument that is bad without it,
+// as a test of the definition has them: no other form is plainer.
 pub fn test_argument(passed: bool, argument: BadArgument) -> Result<(), BadArgument>
     ensures { result ≡ first_bad (record { passed = passed; argument = argument } ∷ []) }
 {

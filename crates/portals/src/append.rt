@@ -18,7 +18,7 @@ use state::layout::Target;
 use state::sizes;
 
 // A slot is free, and a handle is left.
-fn has_space(t: &Target) -> bool
+pub fn has_space(t: &Target) -> bool
     requires { EntriesFit t.now.entries }
     ensures { result ≡ has_space (view_of t.now) }
 {
@@ -26,7 +26,7 @@ fn has_space(t: &Target) -> bool
 }
 
 // The tests of an append, in their order.
-fn append_admitted(t: &Target, e: &Entry) -> Result<(), Refusal>
+pub fn append_admitted(t: &Target, e: &Entry) -> Result<(), Refusal>
     ensures { Admits (λ v. append_tests v e.now) t.now result }
 {
     admission::admit(t, entry::test_entry(e, t.size))?;
@@ -36,7 +36,8 @@ fn append_admitted(t: &Target, e: &Entry) -> Result<(), Refusal>
     Ok(())
 }
 
-// TAKEN where USE_ONCE has a fit, else LINKED with the next handle. The flag is the definition's: no other form of it is plainer.
+// TAKEN where USE_ONCE has a fit, else LINKED with the next handle. A branch here leaves
+// `append` none, and one proof.
 fn taken_or_linked(taken: bool, last: u32) -> Appended
     requires { last < LAST_HANDLE }
     ensures { result ≡ taken_or_linked taken last }

@@ -9,7 +9,7 @@ use state::layout::{Counter, CounterChange, CounterTest, Target};
 use state::sizes;
 
 // The test of a call on a counter.
-fn test_counter(k: u64) -> Result<(), BadArgument>
+pub fn test_counter(k: u64) -> Result<(), BadArgument>
     ensures { result ≡ bad_counter_argument k }
 {
     admission::test_argument(k < sizes::COUNTERS, BadArgument::Counter)
@@ -22,7 +22,8 @@ fn is_ready(c: Counter, test: u64) -> bool
     (test <= c.success) | (c.failure != 0)
 }
 
-// Sets both fields of a counter. Two fields of three: a conversion would be no plainer.
+// Sets both fields of a counter. The third of the three fields names the
+// counter, and nowhere else is a change a counter: a conversion would be no plainer.
 pub fn set_counter(t: &mut Target, x: CounterChange) -> Result<(), Refusal>
     ensures { SetCounterMet t.old x (record { target = t.new; answer = result }) }
 {

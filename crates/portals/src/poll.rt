@@ -18,7 +18,7 @@ fn all_counters(ks: &[u64]) -> bool
 }
 
 // The tests of a poll, over lists "of equal length (else ARG_INVALID)". Every counter is tested, whatever is reached before it.
-fn test_lists(ks: &[u64], tests: &[u64]) -> Result<(), BadArgument>
+pub fn test_lists(ks: &[u64], tests: &[u64]) -> Result<(), BadArgument>
     ensures { result ≡ bad_poll_argument ks.now tests.now }
 {
     if !all_counters(ks) {
@@ -43,7 +43,7 @@ fn lowest_reached(cs: &Counters, ks: &[u64], tests: &[u64]) -> Option<usize>
     }
 }
 
-// Polls a list of counters, each with the test at its place in another list.
+// Polls a list of counters, each with the test at its place in another list, as document 01 names them.
 pub fn poll(t: &Target, ks: &[u64], tests: &[u64]) -> Result<Option<usize>, Refusal>
     ensures { PollMet t.now ks.now tests.now result }
 {

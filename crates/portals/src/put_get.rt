@@ -29,7 +29,7 @@ fn request_admitted(t: &Target, size: usize, q: &Request, requested: usize) -> R
 }
 
 // What becomes of a request: its tests, and then the rules.
-fn request_decided(
+pub fn request_decided(
     t: &Target,
     size: usize,
     q: &Request,
@@ -67,7 +67,7 @@ fn answer_delivery(p: &Plan, kind: Kind, ack: u16) -> RequestAnswer
 }
 
 // What a request answers. The ack is asked and given as the number of the C interface.
-fn answer_by(d: &Decision, kind: Kind, ack: u16) -> RequestAnswer
+pub fn answer_by(d: &Decision, kind: Kind, ack: u16) -> RequestAnswer
     ensures { taken_as result ≡ answer_by kind ack d.now }
 {
     let asked = request::ack_asked(kind, ack);

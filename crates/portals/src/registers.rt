@@ -8,7 +8,7 @@ use matching::refusals::{BadArgument, Refusal};
 use state::layout::Target;
 
 // The test of a register read.
-fn test_register(k: u64) -> Result<(), BadArgument>
+pub fn test_register(k: u64) -> Result<(), BadArgument>
     ensures { result ≡ bad_register_argument k }
 {
     admission::test_argument(k <= 2, BadArgument::Register)

@@ -11,8 +11,8 @@ use matching::layout::Entry;
 use matching::refusals::Refusal;
 use state::layout::Target;
 
-// What a search does with the headers found, by its mode: 0 look, 1 delete. The C interface names the mode in an entry's layout, and no
-// `From` for a number of it is plainer.
+// What a search does with the headers found, by its mode: 0 look, 1 delete. The C interface has the mode in an entry's layout; from a
+// number to a type of another crate no `From` may stand.
 fn search_handling(mode: u8) -> Handling
     ensures { result ≡ search_handling mode }
 {

@@ -8,7 +8,7 @@ use state::layout::Target;
 use state::{entries, unexpected};
 
 // The tests of an unlink, in their order, and the place of the entry that is linked with the handle.
-fn unlink_tested(t: &Target, handle: u32) -> Result<usize, Refusal>
+pub fn unlink_tested(t: &Target, handle: u32) -> Result<usize, Refusal>
     ensures { UnlinkTested t.now handle result }
 {
     admission::test_state(t)?;

@@ -1,5 +1,6 @@
 // Document 01, "Script and printout": what a line of the printout says of a call: its number, and its answer. There is no heap: text
-// goes into a fixed buffer, a name is bytes and no `Display`, whose promise has no bound, and a function says how much room it needs.
+// goes into a fixed buffer, a name is bytes and no `Display`, whose promise has no bound, and a function says how much room it needs, as that
+// differs: no one fact of it is plainer.
 #![tactic(auto, using(text::proofs::WritingLaws::shorter, text::proofs::WritingLaws::and_then), unfolding(crate::specs::Said::said))]
 
 ghost use Rattle.std.specs.Prelude.{◌≡◌, [], ◌++◌, ◌+◌, ◌*◌, ◌≤◌, length, take};

@@ -29,7 +29,8 @@ pub enum CallKind {
 pub enum Call {
     Append(Entry),
     Unlink(u32),
-    // The payload is the part of the file from one place up to another: a call that borrowed it would be no plainer.
+    // The payload is the part of the file from one place up to another: the definitions have
+    // these places, and document 01 names it: "a part of the script slice".
     Put {
         request: Request,
         from: usize,
@@ -75,8 +76,8 @@ impl TryFrom<u8> for CallKind {
     }
 }
 
-// The kind that any number stands for: one that no kind has stands for the last. A script is judged by `try_from`. No `From` stands
-// here beside the `TryFrom`: the two would be no plainer.
+// The kind that any number stands for: one that no kind has stands for the last. A script is judged by `try_from`. The library
+// gives each `From` a `TryFrom`, so that both cannot stand: no `From` for this.
 pub fn call_kind(n: u8) -> CallKind
     ensures { result ≡ call_kind n }
 {

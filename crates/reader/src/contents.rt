@@ -45,7 +45,8 @@ pub fn head_of(s: &[u8]) -> Head
     }
 }
 
-// Line i of the contents: none beyond the last that a file can have, and beyond its end.
+// Line i of the contents: none beyond the last that a file can have, and beyond its end. It takes a slice and a number, as document 01
+// names the covered functions: a `TryFrom` has no place for the number.
 #[tactic(auto, unfolding(crate::specs::Contents::line_at))]
 pub(crate) fn line_at(s: &[u8], i: usize) -> Option<Line>
     ensures { result ≡ line_at s.now i }

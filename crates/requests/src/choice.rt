@@ -21,7 +21,7 @@ fn is_in(x: &HeldEntry, portal: u16, list: u8) -> bool
     x.is_linked() && x.entry.portal == portal && x.entry.list == list
 }
 
-// It stands in the list, and matches the request.
+// It stands in the list, and matches the request. The portal is no part of an arrival, as the definitions have it.
 fn is_candidate(x: &HeldEntry, portal: u16, list: u8, a: &Arrival) -> bool
     ensures { result ≡ is_candidate portal list a.now x.now }
 {

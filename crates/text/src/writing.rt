@@ -2,7 +2,8 @@
 ghost use Rattle.std.specs.Prelude.{◌≡◌, [], ◌∷◌, ◌+◌, ◌≤◌, length, take};
 ghost use Rattle.text.specs.Writing.{Wrote, Room};
 
-// A buffer, and the place behind what was written.
+// A buffer, and the place behind what was written. A slice that shrinks would forget what stands before the place, of which the promises
+// speak: the place is plainer.
 #[derive(Drop)]
 pub struct Writer<'a> {
     pub out: &'a mut [u8],
