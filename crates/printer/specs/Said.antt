@@ -81,7 +81,11 @@ answer_text NONE_REACHED = []
 unfoldable pub said : ℕ → Answer → List ℕ
 said k answer = decimal_of k ++ answer_text answer
 
--- a round number that it does not exceed: the longest is an event's, 20 + 6 + 13 + 9 + 13 * 21 = 321 bytes
+-- a round number that an answer does not exceed: the longest is an event's, 6 + 13 + 9 + 13 * 21 = 301 bytes
+abbrev pub TOLD : ℕ
+TOLD = 330
+
+-- with the number of its call: 20 more
 abbrev pub SAID : ℕ
 SAID = 350
 

@@ -9,7 +9,7 @@ ghost use Rattle.text.specs.Writing.{Room, Wrote};
 ghost use Rattle.matching.specs.Refusals.{refusal_number};
 ghost use Rattle.matching.specs.Kinds.{event_kind, fail_type};
 ghost use Rattle.portals.specs.Answers.{Answer, DONE, SEARCHED, EVENT, COUNTER, REGISTER, refused, answered, appended_as, taken_as, read_as, request_answer};
-ghost use Rattle.printer.specs.Said.{SAID, said, refusal_text, kind_text, fail_text, event_source, event_message, shown_text, shown_of};
+ghost use Rattle.printer.specs.Said.{TOLD, SAID, answer_text, said, refusal_text, kind_text, fail_text, event_source, event_message, event_text, shown_text, shown_of};
 
 use matching::events::{EventKind, FailType};
 use matching::refusals::Refusal;
@@ -18,13 +18,31 @@ use state::layout::{Counter, Event};
 use text::writing::Writer;
 
 // An answer, of which a line says what it means in document 01's words.
-pub trait Say {
+pub trait Say: Sized {
     ghost means: { Self → Answer };
+
+    // Writes the answer.
+    fn tell(self, w: &mut Writer)
+        requires { Room w.old TOLD }
+        ensures { Wrote w.old (answer_text (means self)) TOLD w.new };
 
     // Writes the number of a call, and the answer.
     fn say(self, w: &mut Writer, k: usize)
         requires { Room w.old SAID }
-        ensures { Wrote w.old (said k (means self)) SAID w.new };
+        ensures { Wrote w.old (said k (means self)) SAID w.new }
+    {
+        w.put_decimal(k as u64);
+        self.tell(w);
+    }
+}
+
+// A word and numbers.
+fn put_word(w: &mut Writer, word: &[u8], numbers: &[u64])
+    requires { Room w.old (length word.now + 21 * length numbers.now) }
+    ensures { Wrote w.old (word.now ++ fields_of numbers.now) (length word.now + 21 * length numbers.now) w.new }
+{
+    w.put_bytes(word);
+    w.put_fields(numbers);
 }
 
 // The number of a call, a word and numbers.
@@ -33,8 +51,7 @@ pub fn put_said(w: &mut Writer, k: usize, word: &[u8], numbers: &[u64])
     ensures { Wrote w.old (decimal_of k ++ (word.now ++ fields_of numbers.now)) (20 + (length word.now + 21 * length numbers.now)) w.new }
 {
     w.put_decimal(k as u64);
-    w.put_bytes(word);
-    w.put_fields(numbers);
+    put_word(w, word, numbers);
 }
 
 // "REFUSED name".
@@ -54,10 +71,10 @@ fn refusal_text(refusal: Refusal) -> &'static [u8]
 impl<A: Say> Say for Result<A, Refusal> {
     ghost means = { answered A.means };
 
-    fn say(self, w: &mut Writer, k: usize) {
+    fn tell(self, w: &mut Writer) {
         match self {
-            Ok(a) => a.say(w, k),
-            Err(refusal) => refusal.say(w, k),
+            Ok(a) => a.tell(w),
+            Err(refusal) => refusal.tell(w),
         }
     }
 }
@@ -65,18 +82,18 @@ impl<A: Say> Say for Result<A, Refusal> {
 impl Say for Refusal {
     ghost means = { refused };
 
-    fn say(self, w: &mut Writer, k: usize) {
-        put_said(w, k, refusal_text(self), &[])
+    fn tell(self, w: &mut Writer) {
+        put_word(w, refusal_text(self), &[])
     }
 }
 
 impl Say for Appended {
     ghost means = { appended_as };
 
-    fn say(self, w: &mut Writer, k: usize) {
+    fn tell(self, w: &mut Writer) {
         match self {
-            Appended::Linked(handle) => put_said(w, k, b" LINKED", &[handle as u64]),
-            Appended::Taken => put_said(w, k, b" TAKEN", &[]),
+            Appended::Linked(handle) => put_word(w, b" LINKED", &[handle as u64]),
+            Appended::Taken => put_word(w, b" TAKEN", &[]),
         }
     }
 }
@@ -85,8 +102,8 @@ impl Say for Appended {
 impl Say for () {
     ghost means = { λ u. DONE };
 
-    fn say(self, w: &mut Writer, k: usize) {
-        put_said(w, k, b" DONE", &[])
+    fn tell(self, w: &mut Writer) {
+        put_word(w, b" DONE", &[])
     }
 }
 
@@ -94,29 +111,29 @@ impl Say for () {
 impl Say for usize {
     ghost means = { SEARCHED };
 
-    fn say(self, w: &mut Writer, k: usize) {
-        put_said(w, k, b" SEARCHED", &[self as u64])
+    fn tell(self, w: &mut Writer) {
+        put_word(w, b" SEARCHED", &[self as u64])
     }
 }
 
 impl Say for RequestAnswer {
     ghost means = { taken_as };
 
-    fn say(self, w: &mut Writer, k: usize) {
+    fn tell(self, w: &mut Writer) {
         match self {
             RequestAnswer::Priority {
                 length,
                 offset,
                 ack,
-            } => put_said(w, k, b" PRIORITY", &[length as u64, offset, ack as u64]),
+            } => put_word(w, b" PRIORITY", &[length as u64, offset, ack as u64]),
             RequestAnswer::Overflow {
                 length,
                 offset,
                 ack,
-            } => put_said(w, k, b" OVERFLOW", &[length as u64, offset, ack as u64]),
-            RequestAnswer::Dropped(ack) => put_said(w, k, b" DROPPED", &[ack as u64]),
-            RequestAnswer::PermissionViolation(ack) => put_said(w, k, b" PERM", &[ack as u64]),
-            RequestAnswer::OperationViolation(ack) => put_said(w, k, b" OP", &[ack as u64]),
+            } => put_word(w, b" OVERFLOW", &[length as u64, offset, ack as u64]),
+            RequestAnswer::Dropped(ack) => put_word(w, b" DROPPED", &[ack as u64]),
+            RequestAnswer::PermissionViolation(ack) => put_word(w, b" PERM", &[ack as u64]),
+            RequestAnswer::OperationViolation(ack) => put_word(w, b" OP", &[ack as u64]),
         }
     }
 }
@@ -124,8 +141,8 @@ impl Say for RequestAnswer {
 impl Say for Counter {
     ghost means = { λ c. COUNTER c.success c.failure };
 
-    fn say(self, w: &mut Writer, k: usize) {
-        put_said(w, k, b" COUNTER", &[self.success, self.failure])
+    fn tell(self, w: &mut Writer) {
+        put_word(w, b" COUNTER", &[self.success, self.failure])
     }
 }
 
@@ -133,8 +150,8 @@ impl Say for Counter {
 impl Say for u64 {
     ghost means = { REGISTER };
 
-    fn say(self, w: &mut Writer, k: usize) {
-        put_said(w, k, b" REGISTER", &[self])
+    fn tell(self, w: &mut Writer) {
+        put_word(w, b" REGISTER", &[self])
     }
 }
 
@@ -200,11 +217,11 @@ fn put_event_message(w: &mut Writer, e: &Event)
 }
 
 // An event with its fields and gap.
-fn put_event(w: &mut Writer, k: usize, e: &Event)
-    requires { Room w.old SAID }
-    ensures { Wrote w.old (said k (EVENT e.now)) SAID w.new }
+fn put_event(w: &mut Writer, e: &Event)
+    requires { Room w.old TOLD }
+    ensures { Wrote w.old (event_text e.now) TOLD w.new }
 {
-    put_said(w, k, b" EVENT", &[]);
+    put_word(w, b" EVENT", &[]);
     w.put_bytes(kind_text(EventKind::from(e.kind)));
     w.put_bytes(fail_text(FailType::from(e.fail)));
     put_event_source(w, e);
@@ -215,10 +232,10 @@ fn put_event(w: &mut Writer, k: usize, e: &Event)
 impl Say for Option<Event> {
     ghost means = { read_as };
 
-    fn say(self, w: &mut Writer, k: usize) {
+    fn tell(self, w: &mut Writer) {
         match self {
-            Some(e) => put_event(w, k, &e),
-            None => put_said(w, k, b" NONE", &[]),
+            Some(e) => put_event(w, &e),
+            None => put_word(w, b" NONE", &[]),
         }
     }
 }
