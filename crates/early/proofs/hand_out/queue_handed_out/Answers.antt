@@ -8,8 +8,8 @@ use Rattle.early.proofs.hand_out.queue_handed_out.Goals.{then-fits_header+then-n
 
 pub loop-i-preserved : goal.loop-i-preserved
 loop-i-preserved c =
-    let e = c.args.e.now in
-    let left = (walk_of e c.args.headers.now c.args.w.now).left in
+    let e = c.args.found.now.entry.now in
+    let left = (walk_of e c.args.found.now.headers.now c.args.found.now.walked).left in
     elim c.if-fits_header.branch [
       | then-fits_header+then-not-still_waits w ↦
           rw w.q-is
