@@ -1,5 +1,5 @@
-// The walk over the unexpected headers, oldest first. It is the same for an append and for both modes of a search. The definitions speak
-// of headers and an entry, and of whether a call walks: a struct of these would be no plainer.
+// The walk over the unexpected headers, oldest first. It is the same for an append and for both modes of a search. Whether a call walks
+// is an argument, as it is of the definition.
 ghost use Rattle.std.specs.Prelude.{◌≡◌, List, length};
 ghost use Rattle.early.specs.Walk.{arrival_in, fits_header, uses_once, walk_for, walk_if, found_once};
 ghost use Rattle.early.specs.Parts.{part, finds, walk_of, WalkInside, WalkFits, WalkHolds};
