@@ -131,10 +131,10 @@ headers-left {A} {size} s part s' p first end count kept fits ordered within sam
 
 module _ (h : Header) (others : List Header) where
   -- a header is a retired entry's last where no other header names its handle
-  freed-is : (x : HeldEntry) → freed_by h others x ≡ is_freed h.handle (not (any (names h.handle) others)) x
+  freed-is : (x : HeldEntry) → freed_by h others x ≡ (is_freed h.handle x && not (any (names h.handle) others))
   freed-is x = by (eqb x.handle h.handle) refl
     where
-      by : (same : Bool) → eqb x.handle h.handle ≡ same → freed_by h others x ≡ is_freed h.handle (not (any (names h.handle) others)) x
+      by : (same : Bool) → eqb x.handle h.handle ≡ same → freed_by h others x ≡ (is_freed h.handle x && not (any (names h.handle) others))
       by true e =
           let own : x.handle ≡ h.handle = eqb-true x.handle h.handle e in
           rw own
@@ -142,10 +142,17 @@ module _ (h : Header) (others : List Header) where
           let other : eqb h.handle x.handle ≡ false = ne_eqb h.handle x.handle (λ p. eqb-false x.handle h.handle e (sym p)) in
           rw (e, other, and-false)
 
-  -- so its AUTO_FREE is that of the entry with this handle
-  frees : (last : Bool) (l : List HeldEntry) → last ≡ not (any (names h.handle) others)
-      → free_events h.handle last l ≡ map auto_free_event (select (freed_by h others) l)
-  frees last l e = ap (map auto_free_event) (select-same (is_freed h.handle last) (freed_by h others) l (λ x. rw e (sym (freed-is x))))
+  -- so its AUTO_FREE is that of the entry with this handle,
+  frees : any (names h.handle) others ≡ false → (l : List HeldEntry)
+      → free_events h.handle l ≡ map auto_free_event (select (freed_by h others) l)
+  frees none l =
+      ap (map auto_free_event)
+      (select-same (is_freed h.handle) (freed_by h others) l (λ x. sym (freed-is x ∙ rw (none, and-true (is_freed h.handle x)) refl)))
+
+  -- or no entry is freed
+  frees-none : any (names h.handle) others ≡ true → (l : List HeldEntry) → select (freed_by h others) l ≡ []
+  frees-none some [] = refl
+  frees-none some (x ∷ l) = rw (freed-is x, some, and-false (is_freed h.handle x)) (frees-none some l)
 
 -- ## All headers found
 
@@ -155,27 +162,47 @@ module _ (e : Entry) (owner : ℕ) (entries : List HeldEntry) (left : List Heade
   handing l = hand_out_events e owner entries left (select (fits_header e) l)
 
   module _ (part : List Header) (i : ℕ) (d : Header) (v : EventQueue) (q : Queue) (p : Posting handing part v q i) (inside : i < length part) where
+    -- the headers behind place i
+    rest : take (length part - (i + 1)) (drop (i + 1) part) ≡ drop (i + 1) part
+    rest = rw (← length-drop (i + 1) part) (take-length (drop (i + 1) part))
+
     -- a turn of the loop over them, at place i: the header there does not fit
     pub handing-past : fits_header e (get_or part i d) ≡ false → Posting handing part v q (i + 1)
     handing-past misses = posting-more handing p d inside q [] (rw misses refl) (record { held = refl; fits = p.queue })
 
-    -- it does: its overflow event is made and posted, and then AUTO_FREE
-    pub handing-more : (q' q'' : Queue) (event : Event) (waits : Bool)
+    -- it does, and is its entry's last: its overflow event is made and posted, and then AUTO_FREE
+    pub handing-last : (q' q'' : Queue) (event : Event) (waits : Bool)
         → fits_header e (get_or part i d) ≡ true
         → event ≡ (overflow_event (get_or part i d) e owner).event
         → QueueHolds q' (post (queue_of q) (record { event = event; options = e.options }))
         → waits ≡ any (names (get_or part i d).handle) (select (fits_header e) (take (length part - (i + 1)) (drop (i + 1) part)) ++ left)
-        → QueueHolds q'' (post_all (queue_of q') (free_events (get_or part i d).handle (not waits) entries))
+        → waits ≡ false
+        → QueueHolds q'' (post_all (queue_of q') (free_events (get_or part i d).handle entries))
         → Posting handing part v q'' (i + 1)
-    handing-more q' q'' event waits fits made posted is freed =
+    handing-last q' q'' event waits fits made posted is none freed =
         let h = get_or part i d in
-        let later = drop (i + 1) part in
-        let others = select (fits_header e) later ++ left in
-        let rest : take (length part - (i + 1)) later ≡ later = rw (← length-drop (i + 1) part) (take-length later) in
+        let others = select (fits_header e) (drop (i + 1) part) ++ left in
         let told : waits ≡ any (names h.handle) others = rw rest at is in
         let first : QueueHolds q' (post_all (queue_of q) (overflow_event h e owner ∷ [])) =
         issued-posted q' (queue_of q) event (overflow_event h e owner) made posted in
         let then : QueueHolds q'' (post_all (queue_of q') (map auto_free_event (select (freed_by h others) entries))) =
-        rw (← frees h others (not waits) entries (ap not told)) freed in
+        rw (← frees h others (sym told ∙ none) entries) freed in
         posting-more handing p d inside q'' (hand_out_event e owner entries h others) (rw fits refl)
         (then-posted q' q'' (queue_of q) (overflow_event h e owner ∷ []) (map auto_free_event (select (freed_by h others) entries)) first then)
+
+    -- it does, and another still waits in its entry: its overflow event is all
+    pub handing-more : (q' : Queue) (event : Event) (waits : Bool)
+        → fits_header e (get_or part i d) ≡ true
+        → event ≡ (overflow_event (get_or part i d) e owner).event
+        → QueueHolds q' (post (queue_of q) (record { event = event; options = e.options }))
+        → waits ≡ any (names (get_or part i d).handle) (select (fits_header e) (take (length part - (i + 1)) (drop (i + 1) part)) ++ left)
+        → waits ≡ true
+        → Posting handing part v q' (i + 1)
+    handing-more q' event waits fits made posted is some =
+        let h = get_or part i d in
+        let others = select (fits_header e) (drop (i + 1) part) ++ left in
+        let told : waits ≡ any (names h.handle) others = rw rest at is in
+        let alone : hand_out_event e owner entries h others ≡ (overflow_event h e owner ∷ []) =
+        ap (λ (l : List HeldEntry). overflow_event h e owner ∷ map auto_free_event l) (frees-none h others (sym told ∙ some) entries) in
+        posting-more handing p d inside q' (hand_out_event e owner entries h others) (rw fits refl)
+        (rw alone (issued-posted q' (queue_of q) event (overflow_event h e owner) made posted))

@@ -1,6 +1,6 @@
-// The walk over the unexpected headers, oldest first. It is the same for an append and for both modes of a search. The definitions speak
-// of headers and an entry, and of whether a call walks: a struct of these would be no plainer.
-ghost use Rattle.std.specs.Prelude.{◌≡◌, cond, List, length, None, position};
+// The walk over the unexpected headers, oldest first. It is the same for an append and for both modes of a search. Whether a call walks
+// is an argument, as it is of the definition.
+ghost use Rattle.std.specs.Prelude.{◌≡◌, List, length};
 ghost use Rattle.early.specs.Walk.{arrival_in, fits_header, uses_once, walk_for, walk_if, found_once};
 ghost use Rattle.early.specs.Parts.{part, finds, walk_of, WalkInside, WalkFits, WalkHolds};
 ghost use Rattle.state.specs.declared.layout.Header.{Header};
@@ -49,24 +49,12 @@ fn uses_once(e: &Entry) -> bool
     entry::is_set(e.options, entry::USE_ONCE)
 }
 
-// The place of the first that fits, if one does. Where a call does not walk there is none.
-fn first_fit(headers: &[Header], walks: bool, e: &Entry) -> Option<usize>
-    ensures { result ≡ cond walks (position (fits_header e.now) headers.now) None }
-{
-    if walks {
-        headers.iter().position(|h| fits_header(e, h))
-    } else {
-        None
-    }
-}
-
-// The walk of a call that walks: all that fit are found, or under USE_ONCE the first of them; the others are left. A call that does
-// not walk finds none and leaves all.
-pub fn walk_if(headers: &[Header], walks: bool, e: &Entry) -> Walked
-    ensures { WalkHolds e.now headers.now result (walk_if walks e.now headers.now) }
+// The walk: all that fit are found, or under USE_ONCE the first of them; the others are left.
+pub fn walk_for(headers: &[Header], e: &Entry) -> Walked
+    ensures { WalkHolds e.now headers.now result (walk_for e.now headers.now) }
 {
     let all = headers.len();
-    match first_fit(headers, walks, e) {
+    match headers.iter().position(|h| fits_header(e, h)) {
         Some(first) if uses_once(e) => Walked {
             first,
             end: first + 1,
@@ -79,11 +67,19 @@ pub fn walk_if(headers: &[Header], walks: bool, e: &Entry) -> Walked
     }
 }
 
-// The walk.
-pub fn walk_for(headers: &[Header], e: &Entry) -> Walked
-    ensures { WalkHolds e.now headers.now result (walk_for e.now headers.now) }
+// The walk of a call that walks; one that does not finds none and leaves all.
+pub fn walk_if(headers: &[Header], walks: bool, e: &Entry) -> Walked
+    ensures { WalkHolds e.now headers.now result (walk_if walks e.now headers.now) }
 {
-    walk_if(headers, true, e)
+    if walks {
+        walk_for(headers, e)
+    } else {
+        let all = headers.len();
+        Walked {
+            first: all,
+            end: all,
+        }
+    }
 }
 
 impl Walked {

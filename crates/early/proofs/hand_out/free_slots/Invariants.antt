@@ -5,4 +5,4 @@ use Rattle.early.specs.Parts.{walk_of}
 use Rattle.early.proofs.hand_out.free_slots.Given as goal
 
 abbrev pub invariant-loop-i : goal.invariant-loop-i
-invariant-loop-i l = FiltersInPlace (keeps_slot (walk_of l.e l.headers l.w).left) l.initial.es.slots l.es.slots l.kept l.i
+invariant-loop-i l = FiltersInPlace (keeps_slot (walk_of l.found.entry.now l.found.headers.now l.found.walked).left) l.initial.es.slots l.es.slots l.kept l.i

@@ -9,7 +9,7 @@ use Rattle.early.proofs.hand_out.keep_entries.Goals as goal
 pub returns-else-finds : goal.returns-else-finds
 returns-else-finds c = record {
   held =
-      sym (select-all (keeps_slot (walk_of c.args.e.now c.args.headers.now c.args.w.now).left) (entries_of c.args.es.now)
+      sym (select-all (keeps_slot (walk_of c.args.found.now.entry.now c.args.found.now.headers.now c.args.found.now.walked).left) (entries_of c.args.es.now)
       (c.requires.kept (sym c.finds.ensures ∙ c.if-finds.false)));
   fits = c.requires.fits;
 }

@@ -5,4 +5,4 @@ use Rattle.early.proofs.PostingLaws.{Posting}
 use Rattle.early.proofs.hand_out.queue_freed.Given as goal
 
 abbrev pub invariant-loop-x : goal.invariant-loop-x
-invariant-loop-x l = Posting (free_events l.handle l.last) l.entries (queue_of l.initial.q) l.q l.x-index
+invariant-loop-x l = Posting (free_events l.handle) l.entries (queue_of l.initial.q) l.q l.x-index

@@ -1,21 +1,28 @@
--- A header that fits is handed out; another is passed.
+-- A header that fits is handed out, with AUTO_FREE if it is its entry's last; another is passed.
 use Rattle.std.proofs.Common.{◌∙◌, sym, rules}
 use Rattle.state.specs.View.{zero_header}
 use Rattle.early.specs.Parts.{walk_of}
-use Rattle.early.proofs.HandOutLaws.{handing-past, handing-more}
+use Rattle.early.proofs.HandOutLaws.{handing-past, handing-more, handing-last}
 use Rattle.early.proofs.hand_out.queue_handed_out.Goals as goal
-use Rattle.early.proofs.hand_out.queue_handed_out.Goals.{then-fits_header, else-fits_header}
+use Rattle.early.proofs.hand_out.queue_handed_out.Goals.{then-fits_header+then-not-still_waits, then-fits_header+else-not-still_waits, else-fits_header}
 
 pub loop-i-preserved : goal.loop-i-preserved
 loop-i-preserved c =
-    let e = c.args.e.now in
-    let left = (walk_of e c.args.headers.now c.args.w.now).left in
+    let e = c.args.found.now.entry.now in
+    let left = (walk_of e c.args.found.now.headers.now c.args.found.now.walked).left in
     elim c.if-fits_header.branch [
-      | then-fits_header w ↦
+      | then-fits_header+then-not-still_waits w ↦
+          rw w.q-is
+          (handing-last e c.args.owner c.args.entries.now left c.part-part.result.now c.loop-i.i zero_header _ c.loop-i.q c.loop-i.invariant (search rules)
+          w.post.new.self w.queue_freed.new.q w.overflow_event.result w.still_waits.result
+          (sym c.fits_header.ensures ∙ w.if-fits_header.true) w.overflow_event.ensures w.post.ensures w.still_waits.ensures
+          w.if-not-still_waits.true w.queue_freed.ensures)
+      | then-fits_header+else-not-still_waits w ↦
           rw w.q-is
           (handing-more e c.args.owner c.args.entries.now left c.part-part.result.now c.loop-i.i zero_header _ c.loop-i.q c.loop-i.invariant (search rules)
-          w.post.new.self w.queue_freed.new.q w.overflow_event.result w.still_waits-last.result
-          (sym c.fits_header.ensures ∙ w.if-fits_header.true) w.overflow_event.ensures w.post.ensures w.still_waits-last.ensures w.queue_freed.ensures)
+          w.post.new.self w.overflow_event.result w.still_waits.result
+          (sym c.fits_header.ensures ∙ w.if-fits_header.true) w.overflow_event.ensures w.post.ensures w.still_waits.ensures
+          w.if-not-still_waits.false)
       | else-fits_header w ↦
           rw w.q-is
           (handing-past e c.args.owner c.args.entries.now left c.part-part.result.now c.loop-i.i zero_header _ c.loop-i.q c.loop-i.invariant (search rules)

@@ -6,4 +6,4 @@ use Rattle.early.proofs.HandOutLaws.{handing}
 use Rattle.early.proofs.hand_out.queue_handed_out.Given as goal
 
 abbrev pub invariant-loop-i : goal.invariant-loop-i
-invariant-loop-i l = Posting (handing l.e l.owner l.entries (walk_of l.e l.headers l.w).left) l.part (queue_of l.initial.q) l.q l.i
+invariant-loop-i l = Posting (handing l.found.entry.now l.owner l.entries (walk_of l.found.entry.now l.found.headers.now l.found.walked).left) l.part (queue_of l.initial.q) l.q l.i

@@ -10,23 +10,23 @@ use Rattle.early.proofs.handling.queue_events.Goals as goal
 
 pub returns-in-Look : goal.returns-in-Look
 returns-in-Look c =
-    let w = walk_of c.args.e.now c.args.headers.now c.args.w.now in
+    let w = walk_of c.args.found.now.entry.now c.args.found.now.headers.now c.args.found.now.walked in
     rw c.in-Look.is
-    (then-posted _ _ (queue_of c.args.q.now) (map (search_event c.args.e.now) w.found) (closing_events c.args.e.now w)
+    (then-posted _ _ (queue_of c.args.q.now) (map (search_event c.args.found.now.entry.now) w.found) (closing_events c.args.found.now.entry.now w)
     (rw c.part.ensures at c.queue_found.ensures) c.queue_closed.ensures)
 
 pub returns-in-Delete : goal.returns-in-Delete
 returns-in-Delete c =
-    let w = walk_of c.args.e.now c.args.headers.now c.args.w.now in
+    let w = walk_of c.args.found.now.entry.now c.args.found.now.headers.now c.args.found.now.walked in
     rw c.in-Delete.is
-    (then-posted _ _ (queue_of c.args.q.now) (hand_out_events c.args.e.now 0 c.args.entries.now w.left w.found) (closing_events c.args.e.now w)
+    (then-posted _ _ (queue_of c.args.q.now) (hand_out_events c.args.found.now.entry.now 0 c.args.entries.now w.left w.found) (closing_events c.args.found.now.entry.now w)
     c.queue_handed_out.ensures c.queue_closed-in-Delete.ensures)
 
 pub returns-in-Link : goal.returns-in-Link
 returns-in-Link c =
-    let w = walk_of c.args.e.now c.args.headers.now c.args.w.now in
+    let w = walk_of c.args.found.now.entry.now c.args.found.now.headers.now c.args.found.now.walked in
     let handle = c.in-Link.handle in
-    let link = link_event c.args.e.now handle in
+    let link = link_event c.args.found.now.entry.now handle in
     rw c.in-Link.is
-    (then-posted _ _ (queue_of c.args.q.now) (hand_out_events c.args.e.now handle c.args.entries.now w.left w.found) (link ∷ [])
+    (then-posted _ _ (queue_of c.args.q.now) (hand_out_events c.args.found.now.entry.now handle c.args.entries.now w.left w.found) (link ∷ [])
     c.queue_handed_out-in-Link.ensures (issued-posted _ (queue_of c.queue_handed_out-in-Link.new.q) _ link c.link_event.ensures c.post.ensures))

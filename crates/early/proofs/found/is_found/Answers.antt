@@ -3,7 +3,7 @@ use Rattle.state.specs.Soundness.{names}
 use Rattle.state.proofs.FoundLaws.{any_told}
 use Rattle.early.specs.Walk.{fits_header}
 use Rattle.early.proofs.HandOutLaws.{any-selected}
-use Rattle.early.proofs.hand_out.is_found.Goals as goal
+use Rattle.early.proofs.found.is_found.Goals as goal
 
 pub returns : goal.returns
 returns c =
