@@ -74,11 +74,8 @@ pub fn walk_if(headers: &[Header], walks: bool, e: &Entry) -> Walked
     if walks {
         walk_for(headers, e)
     } else {
-        let all = headers.len();
-        Walked {
-            first: all,
-            end: all,
-        }
+        let n = headers.len();
+        Walked { first: n, end: n }
     }
 }
 
