@@ -20,7 +20,8 @@ pub struct Found<'a> {
     ghost fits: { WalkFits entry.now headers.now walked },
 }
 
-// Some header of a part with this handle fits.
+// Some header of a part with this handle fits. What comes later in the walk is no part of a `Found` of its own: the parameters are
+// plainer.
 fn is_found(part: &[Header], e: &Entry, handle: u32) -> bool
     ensures { result ≡ any (names handle) (select (fits_header e.now) part.now) }
 {
