@@ -26,7 +26,8 @@ pub trait Say: Sized {
         requires { Room w.old TOLD }
         ensures { Wrote w.old (answer_text (means self)) TOLD w.new };
 
-    // Writes the number of a call, and the answer.
+    // Writes the number of a call, and the answer. Of a line only its beginning has both the writer and the number: a struct of them
+    // would be no plainer.
     fn say(self, w: &mut Writer, k: usize)
         requires { Room w.old SAID }
         ensures { Wrote w.old (said k (means self)) SAID w.new }
