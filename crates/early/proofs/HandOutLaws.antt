@@ -82,7 +82,30 @@ any-unselected p q (x ∷ l) = by (q x) ∙ ap (λ (b : Bool). p x && not (q x) 
     by true = rw (and-false (p x)) refl
     by false = rw (and-true (p x)) refl
 
+-- ## The entries that keep their slot
+
+-- those of the first `count` that pass stand at the front
+pub front-kept : {A : Type 0} {size : ℕ} (s part : List A) (p : A → Bool) (count kept : ℕ)
+    → Fits size s count
+    → length part ≡ length (take count s)
+    → kept ≤ length (take count s)
+    → take kept part ≡ select p (take count s)
+    → Holds size (part ++ drop count s) kept (select p (take count s))
+front-kept s part p count kept fits same few front =
+    let before : length (take count s) ≡ count = length-take-le count s (omega (arith, fits.room, fits.long)) in
+    record {
+      held = take-append-le kept part (drop count s) (omega (arith, same, few)) ∙ front;
+      fits = record {
+        room = omega (arith, few, before, fits.room);
+        long = length-append part (drop count s) ∙ omega (arith, same, before, length-drop count s, fits.room, fits.long);
+      };
+    }
+
 -- ## The headers that are left
+
+-- to select those that do not pass is to leave those that do
+pub select-not : {A : Type 0} (p : A → Bool) (l : List A) → select (λ x. not (p x)) l ≡ select_not p l
+select-not p l = sym (filter-select (λ x. not (p x)) l) ∙ filter-select_not p l
 
 -- those of a part that do not pass stand at its front, and those after it move up behind them
 pub headers-left : {A : Type 0} {size : ℕ} (s part s' : List A) (p : A → Bool) (first end count kept : ℕ)

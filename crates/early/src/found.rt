@@ -29,7 +29,8 @@ fn is_found(part: &[Header], e: &Entry, handle: u32) -> bool
         .any(|h| h.handle == handle && walk::fits_header(e, h))
 }
 
-// Some header of a part with this handle does not fit.
+// Some header of a part with this handle does not fit. One function for both would take a test that each caller has to write, which is no
+// plainer.
 fn is_passed(part: &[Header], e: &Entry, handle: u32) -> bool
     ensures { result ≡ any (names handle) (select_not (fits_header e.now) part.now) }
 {
