@@ -177,6 +177,34 @@ module _ (h : Header) (others : List Header) where
   frees-none some [] = refl
   frees-none some (x ∷ l) = rw (freed-is x, some, and-false (is_freed h.handle x)) (frees-none some l)
 
+-- ## A header that is handed out
+
+-- the headers behind place i
+behind : (l : List Header) (i : ℕ) → take (length l - (i + 1)) (drop (i + 1) l) ≡ drop (i + 1) l
+behind l i = rw (← length-drop (i + 1) l) (take-length (drop (i + 1) l))
+
+module _ (e : Entry) (owner : ℕ) (entries : List HeldEntry) (h : Header) (others : List Header) (q q' : Queue) (event : Event) (waits : Bool)
+    (made : event ≡ (overflow_event h e owner).event)
+    (posted : QueueHolds q' (post (queue_of q) (record { event = event; options = e.options })))
+    (is : waits ≡ any (names h.handle) others) where
+  -- it is its entry's last: its overflow event is made and posted, and then AUTO_FREE
+  pub handed-last : (q'' : Queue) → waits ≡ false
+      → QueueHolds q'' (post_all (queue_of q') (free_events h.handle entries))
+      → QueueHolds q'' (post_all (queue_of q) (hand_out_event e owner entries h others))
+  handed-last q'' none freed =
+      let first : QueueHolds q' (post_all (queue_of q) (overflow_event h e owner ∷ [])) =
+      issued-posted q' (queue_of q) event (overflow_event h e owner) made posted in
+      let then : QueueHolds q'' (post_all (queue_of q') (map auto_free_event (select (freed_by h others) entries))) =
+      rw (← frees h others (sym is ∙ none) entries) freed in
+      then-posted q' q'' (queue_of q) (overflow_event h e owner ∷ []) (map auto_free_event (select (freed_by h others) entries)) first then
+
+  -- another still waits in its entry: its overflow event is all
+  pub handed-more : waits ≡ true → QueueHolds q' (post_all (queue_of q) (hand_out_event e owner entries h others))
+  handed-more some =
+      let alone : hand_out_event e owner entries h others ≡ (overflow_event h e owner ∷ []) =
+      ap (λ (l : List HeldEntry). overflow_event h e owner ∷ map auto_free_event l) (frees-none h others (sym is ∙ some) entries) in
+      rw alone (issued-posted q' (queue_of q) event (overflow_event h e owner) made posted)
+
 -- ## All headers found
 
 module _ (e : Entry) (owner : ℕ) (entries : List HeldEntry) (left : List Header) where
@@ -185,10 +213,6 @@ module _ (e : Entry) (owner : ℕ) (entries : List HeldEntry) (left : List Heade
   handing l = hand_out_events e owner entries left (select (fits_header e) l)
 
   module _ (part : List Header) (i : ℕ) (d : Header) (v : EventQueue) (q : Queue) (p : Posting handing part v q i) (inside : i < length part) where
-    -- the headers behind place i
-    rest : take (length part - (i + 1)) (drop (i + 1) part) ≡ drop (i + 1) part
-    rest = rw (← length-drop (i + 1) part) (take-length (drop (i + 1) part))
-
     -- a turn of the loop over them, at place i: the header there does not fit
     pub handing-past : fits_header e (get_or part i d) ≡ false → Posting handing part v q (i + 1)
     handing-past misses = posting-more handing p d inside q [] (rw misses refl) (record { held = refl; fits = p.queue })
@@ -205,13 +229,8 @@ module _ (e : Entry) (owner : ℕ) (entries : List HeldEntry) (left : List Heade
     handing-last q' q'' event waits fits made posted is none freed =
         let h = get_or part i d in
         let others = select (fits_header e) (drop (i + 1) part) ++ left in
-        let told : waits ≡ any (names h.handle) others = rw rest at is in
-        let first : QueueHolds q' (post_all (queue_of q) (overflow_event h e owner ∷ [])) =
-        issued-posted q' (queue_of q) event (overflow_event h e owner) made posted in
-        let then : QueueHolds q'' (post_all (queue_of q') (map auto_free_event (select (freed_by h others) entries))) =
-        rw (← frees h others (sym told ∙ none) entries) freed in
         posting-more handing p d inside q'' (hand_out_event e owner entries h others) (rw fits refl)
-        (then-posted q' q'' (queue_of q) (overflow_event h e owner ∷ []) (map auto_free_event (select (freed_by h others) entries)) first then)
+        (handed-last e owner entries h others q q' event waits made posted (rw (behind part i) at is) q'' none freed)
 
     -- it does, and another still waits in its entry: its overflow event is all
     pub handing-more : (q' : Queue) (event : Event) (waits : Bool)
@@ -224,8 +243,31 @@ module _ (e : Entry) (owner : ℕ) (entries : List HeldEntry) (left : List Heade
     handing-more q' event waits fits made posted is some =
         let h = get_or part i d in
         let others = select (fits_header e) (drop (i + 1) part) ++ left in
-        let told : waits ≡ any (names h.handle) others = rw rest at is in
-        let alone : hand_out_event e owner entries h others ≡ (overflow_event h e owner ∷ []) =
-        ap (λ (l : List HeldEntry). overflow_event h e owner ∷ map auto_free_event l) (frees-none h others (sym told ∙ some) entries) in
         posting-more handing p d inside q' (hand_out_event e owner entries h others) (rw fits refl)
-        (rw alone (issued-posted q' (queue_of q) event (overflow_event h e owner) made posted))
+        (handed-more e owner entries h others q q' event waits made posted (rw (behind part i) at is) some)
+
+-- ## Any headers found and left
+
+module _ (e : Entry) (owner : ℕ) (entries : List HeldEntry) (left found : List Header) (i : ℕ) (d : Header) (v : EventQueue) (q : Queue)
+    (p : Posting (hand_out_events e owner entries left) found v q i) (inside : i < length found)
+    (q' : Queue) (event : Event) (waits : Bool)
+    (made : event ≡ (overflow_event (get_or found i d) e owner).event)
+    (posted : QueueHolds q' (post (queue_of q) (record { event = event; options = e.options })))
+    (is : waits ≡ any (names (get_or found i d).handle) (take (length found - (i + 1)) (drop (i + 1) found) ++ left)) where
+  -- a turn of the loop over them, at place i: the header there is its entry's last
+  pub lists-last : (q'' : Queue) → waits ≡ false
+      → QueueHolds q'' (post_all (queue_of q') (free_events (get_or found i d).handle entries))
+      → Posting (hand_out_events e owner entries left) found v q'' (i + 1)
+  lists-last q'' none freed =
+      let h = get_or found i d in
+      let others = drop (i + 1) found ++ left in
+      posting-more (hand_out_events e owner entries left) p d inside q'' (hand_out_event e owner entries h others) refl
+      (handed-last e owner entries h others q q' event waits made posted (rw (behind found i) at is) q'' none freed)
+
+  -- another still waits in its entry
+  pub lists-more : waits ≡ true → Posting (hand_out_events e owner entries left) found v q' (i + 1)
+  lists-more some =
+      let h = get_or found i d in
+      let others = drop (i + 1) found ++ left in
+      posting-more (hand_out_events e owner entries left) p d inside q' (hand_out_event e owner entries h others) refl
+      (handed-more e owner entries h others q q' event waits made posted (rw (behind found i) at is) some)

@@ -22,11 +22,13 @@ fn on_lent<A, F: FnOnce(Target) -> Done<A>>(t: &mut Target, call: F) -> A
 }
 
 // Makes a target in a place that its caller lends. What the place held is not read, and is lost: beside a refusal too, where a target
-// of size 0 comes to stand there.
+// of size 0 comes to stand there. `on_lent` would read it.
 pub fn new(place: &mut Target, s: Settings) -> Result<(), Refusal>
     ensures { NewMet s (record { target = place.new; answer = result }) }
 {
-    on_lent(place, |_| by_value::new(s))
+    let r = by_value::new(s);
+    *place = r.target;
+    r.answer
 }
 
 pub fn append(t: &mut Target, e: Entry) -> Result<Appended, Refusal>

@@ -7,11 +7,11 @@ use std::io;
 use std::io::Stdout;
 
 // The target that is lent, and the one that is handed over by value, each with a memory.
-#[derive(Drop)]
+#[derive(Clone, Copy)]
 pub struct Pair {
     stdout: Stdout,
-    lent: Target,
-    value: Target,
+    pub lent: Target,
+    pub value: Target,
     lent_memory: [u8; 64],
     value_memory: [u8; 64],
 }

@@ -1,7 +1,7 @@
 // Document 01, "Request": the calls put and get.
 ghost use Rattle.std.specs.Prelude.{◌≡◌};
 ghost use Rattle.portals.specs.Admission.{Admits};
-ghost use Rattle.portals.specs.Answers.{taken_as};
+ghost use Rattle.portals.specs.Answers.{answered, taken_as, request_answer};
 ghost use Rattle.portals.specs.Request.{delivery_answer, answer_by, request_tests, DecidedAs};
 ghost use Rattle.portals.specs.Promises.{PutMet, GetMet};
 
@@ -76,6 +76,20 @@ pub fn answer_by(d: &Decision, kind: Kind, ack: u16) -> RequestAnswer
         Decision::Deny(Violation::Permission) => RequestAnswer::PermissionViolation(asked),
         Decision::Deny(Violation::Operation) => RequestAnswer::OperationViolation(asked),
         Decision::Deliver(p) => answer_delivery(p, kind, ack),
+    }
+}
+
+// The same of a request that may have been refused: it answers the refusal.
+pub fn answer_if_decided(
+    decided: &Result<Decision, Refusal>,
+    kind: Kind,
+    ack: u16,
+) -> Result<RequestAnswer, Refusal>
+    ensures { request_answer result ≡ answered (answer_by kind ack) decided.now }
+{
+    match decided {
+        Ok(d) => Ok(answer_by(d, kind, ack)),
+        Err(refusal) => Err(*refusal),
     }
 }
 

@@ -3,10 +3,11 @@ ghost use Rattle.std.specs.Prelude.{◌≤◌, length};
 
 use std::io::Read;
 
-// Reads until the buffer is full or the file ends, and answers what was read. A read that fails counts as the end. `read_exact`
-// would not say how much it read of a shorter file, so the loop stands here.
-pub fn read_full<'a, R: Read>(from: &mut R, buf: &'a mut [u8]) -> &'a [u8]
-    ensures { length result.now ≤ length buf.old }
+// Reads until the buffer is full or the file ends, and answers how many bytes were read. A read that fails counts as the end.
+// `read_exact` would not say how much it read of a shorter file, so the loop stands here. The count, and not the slice: of a slice
+// its caller would not know that it is the front of the buffer.
+pub fn read_full<R: Read>(from: &mut R, buf: &mut [u8]) -> usize
+    ensures { result ≤ length buf.new }
 {
     let mut done = 0;
     while done < buf.len() {
@@ -15,5 +16,5 @@ pub fn read_full<'a, R: Read>(from: &mut R, buf: &'a mut [u8]) -> &'a [u8]
             Ok(n) => done += n,
         }
     }
-    &buf[..done]
+    done
 }

@@ -11,9 +11,9 @@ use std::{env, io};
 fn replay_file(rt: &HostRuntime, path: &str) -> io::Result<Report> {
     let mut from = File::open(rt, path)?;
     let mut file = [0u8; 32769];
-    let script = input::read_full(&mut from, &mut file);
+    let n = input::read_full(&mut from, &mut file);
     println!(rt; "== {path}")?;
-    Ok(replay::replay(rt.stdout(), script))
+    Ok(replay::replay(rt.stdout(), &file[..n]))
 }
 
 // What fails is said on standard error, and the next file's turn comes.
