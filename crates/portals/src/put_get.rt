@@ -79,7 +79,7 @@ pub fn answer_by(d: &Decision, kind: Kind, ack: u16) -> RequestAnswer
     }
 }
 
-// The same of a request that may have been refused: it answers the refusal.
+// The same of a request that may have been refused: it answers the refusal. The ack is the number of the C interface here too.
 pub fn answer_if_decided(
     decided: &Result<Decision, Refusal>,
     kind: Kind,
