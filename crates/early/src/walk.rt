@@ -43,7 +43,7 @@ pub fn fits_header(e: &Entry, h: &Header) -> bool
 }
 
 // The walk ends at the first that fits.
-fn uses_once(e: &Entry) -> bool
+pub(crate) fn uses_once(e: &Entry) -> bool
     ensures { result ≡ uses_once e.now }
 {
     entry::is_set(e.options, entry::USE_ONCE)
