@@ -1,4 +1,5 @@
-// What `handling` does, of any headers found and left, in lists of their own: the definitions speak of these two.
+// What `handling` does, of any headers found and left, in lists of their own: the definitions speak of these two, and of each part of the
+// state by itself. What a function needs of a part it requires, as in hand_out.rt. No call comes here: a walk makes no lists.
 ghost use Rattle.std.specs.Prelude.{◌≡◌, ◌≤◌, List, length, map, IfSome, MatchOption};
 ghost use Rattle.state.specs.Sizes.{HEADERS};
 ghost use Rattle.state.specs.View.{entries_of, headers_of, queue_of};
