@@ -1,4 +1,5 @@
 -- How put and get keep their promises: where the decision is the rules', and every part, the answer and the buffer are left as it says.
+use Rattle.std.specs.Prelude.{Result, Ok, Err}
 use mathlib.Core.Path.{◌≡◌, refl}
 use mathlib.Core.Bool.{true}
 use mathlib.Core.List.{List}
@@ -8,6 +9,7 @@ use Rattle.matching.specs.Request.{arrival_of}
 use Rattle.matching.specs.declared.layout.Request.{Request}
 use Rattle.matching.specs.declared.request.Kind.{Kind}
 use Rattle.matching.specs.declared.request.Violation.TheVariants as Violation
+use Rattle.matching.specs.declared.refusals.Refusal.{Refusal}
 use Rattle.state.specs.View.{view_of}
 use Rattle.state.specs.Soundness.{counts_kept}
 use Rattle.state.specs.declared.layout.Target.{Target}
@@ -16,10 +18,11 @@ use Rattle.requests.specs.Decision.{decide, if_delivered, request_state}
 use Rattle.requests.specs.Parts.{TargetAfter}
 use Rattle.requests.specs.declared.plan.Plan.{Plan}
 use Rattle.requests.specs.declared.decision.Decision.{Decision}
-use Rattle.portals.specs.Request.{answer_by, request_tests, carried_out, put, get, ByRules}
+use Rattle.portals.specs.Answers.{answered}
+use Rattle.portals.specs.Request.{answer_by, request_tests, carried_out, put, get, DecidedAs}
 use Rattle.portals.specs.Promises.{Met}
 use Rattle.portals.proofs.RequestCalls.{put-sound, get-sound, decision-answers}
-use Rattle.portals.proofs.MetLaws.{fits-counts, Done, Guarded, done-kept}
+use Rattle.portals.proofs.MetLaws.{fits-counts, Done, Guarded, done-kept, refused-kept}
 
 -- ## The state that is left
 
@@ -70,17 +73,35 @@ module _ (memory : List ℕ) (q : Request) where
   unfolding get
   get-guarded reply = record { is = λ v. refl; kept = λ v s. get-sound v memory q reply s }
 
-module _ (t t' : Target) (memory : List ℕ) (q : Request) (d : Decision) (after : TargetAfter t d t') where
-  pub put-met : (payload : List ℕ)
-      → ByRules t (length memory) q Kind.Put (length payload) d
-      → Met (λ v. put v memory q payload) t memory (answer_by Kind.Put q.ack d) t' (if_delivered (bytes_put memory payload) memory d)
-  put-met payload r =
-      done-kept (put-guarded memory q payload) t t' (if_delivered (bytes_put memory payload) memory d) (answer_by Kind.Put q.ack d) r.admits
-      (rw (← r.decides.is) (request-done t t' q Kind.Put (bytes_put memory payload) memory d (fits-counts t (r.admits.fits refl)) after))
+-- a request ends as it was decided: refused, all stays as it was; else the target is left as the decision says
+abbrev pub EndedAs : Target → Result Decision Refusal → Target → Type 0
+EndedAs t (Err r) t' = t' ≡ t
+EndedAs t (Ok d) t' = TargetAfter t d t'
 
-  pub get-met : (reply : List ℕ)
-      → ByRules t (length memory) q Kind.Get (length reply) d
-      → Met (λ v. get v memory q reply) t reply (answer_by Kind.Get q.ack d) t' (if_delivered (bytes_got memory reply) reply d)
-  get-met reply r =
-      done-kept (get-guarded memory q reply) t t' (if_delivered (bytes_got memory reply) reply d) (answer_by Kind.Get q.ack d) r.admits
-      (rw (← r.decides.is) (request-done t t' q Kind.Get (bytes_got memory reply) reply d (fits-counts t (r.admits.fits refl)) after))
+-- the lent buffer then: with the bytes that a delivery moves, else as it was
+abbrev pub moved_if : (Plan → List ℕ) → List ℕ → Result Decision Refusal → List ℕ
+moved_if moved lent (Err r) = lent
+moved_if moved lent (Ok d) = if_delivered moved lent d
+
+module _ (t t' : Target) (memory : List ℕ) (q : Request) where
+  -- refused or not, a put that is decided and ends so keeps its promise
+  pub put-met : (payload : List ℕ) (d : Result Decision Refusal)
+      → DecidedAs t (length memory) q Kind.Put (length payload) d
+      → EndedAs t d t'
+      → Met (λ v. put v memory q payload) t memory (answered (answer_by Kind.Put q.ack) d) t' (moved_if (bytes_put memory payload) memory d)
+  put-met payload (Err r) refused same = rw same (refused-kept (put-guarded memory q payload) t r refused)
+  put-met payload (Ok d) decided after =
+      done-kept (put-guarded memory q payload) t t' (if_delivered (bytes_put memory payload) memory d) (answer_by Kind.Put q.ack d) decided.admits
+      (rw (← decided.decides.is)
+      (request-done t t' q Kind.Put (bytes_put memory payload) memory d (fits-counts t (decided.admits.fits refl)) after))
+
+  -- so does a get
+  pub get-met : (reply : List ℕ) (d : Result Decision Refusal)
+      → DecidedAs t (length memory) q Kind.Get (length reply) d
+      → EndedAs t d t'
+      → Met (λ v. get v memory q reply) t reply (answered (answer_by Kind.Get q.ack) d) t' (moved_if (bytes_got memory reply) reply d)
+  get-met reply (Err r) refused same = rw same (refused-kept (get-guarded memory q reply) t r refused)
+  get-met reply (Ok d) decided after =
+      done-kept (get-guarded memory q reply) t t' (if_delivered (bytes_got memory reply) reply d) (answer_by Kind.Get q.ack d) decided.admits
+      (rw (← decided.decides.is)
+      (request-done t t' q Kind.Get (bytes_got memory reply) reply d (fits-counts t (decided.admits.fits refl)) after))

@@ -24,15 +24,15 @@ fn is_ready(c: Counter, test: u64) -> bool
 
 // Sets both fields of a counter. The third of the three fields names the
 // counter, and nowhere else is a change a counter: a conversion would be no plainer.
-pub fn set_counter(t: &mut Target, x: CounterChange) -> Result<(), Refusal>
-    ensures { SetCounterMet t.old x (record { target = t.new; answer = result }) }
+pub fn set_counter(t: &mut Target, to: CounterChange) -> Result<(), Refusal>
+    ensures { SetCounterMet t.old to (record { target = t.new; answer = result }) }
 {
-    admission::admit(t, test_counter(x.counter))?;
+    admission::admit(t, test_counter(to.counter))?;
     let c = Counter {
-        success: x.success,
-        failure: x.failure,
+        success: to.success,
+        failure: to.failure,
     };
-    t.counters.set(x.counter, c);
+    t.counters.set(to.counter, c);
     Ok(())
 }
 
@@ -55,10 +55,10 @@ pub fn read_counter(t: &Target, k: u64) -> Result<Counter, Refusal>
 }
 
 // Tests a counter: whether it is ready.
-pub fn ready(t: &Target, x: CounterTest) -> Result<bool, Refusal>
-    ensures { ReadyMet t.now x result }
+pub fn ready(t: &Target, asked: CounterTest) -> Result<bool, Refusal>
+    ensures { ReadyMet t.now asked result }
 {
-    admission::admit(t, test_counter(x.counter))?;
-    let c = t.counters.at(x.counter);
-    Ok(is_ready(c, x.test))
+    admission::admit(t, test_counter(asked.counter))?;
+    let c = t.counters.at(asked.counter);
+    Ok(is_ready(c, asked.test))
 }

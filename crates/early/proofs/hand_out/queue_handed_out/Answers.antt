@@ -15,13 +15,13 @@ loop-i-preserved c =
           rw w.q-is
           (handing-last e c.args.owner c.args.entries.now left c.part-part.result.now c.loop-i.i zero_header _ c.loop-i.q c.loop-i.invariant (search rules)
           w.post.new.self w.queue_freed.new.q w.overflow_event.result w.still_waits.result
-          (sym c.fits_header.ensures ∙ w.if-fits_header.true) w.overflow_event.ensures w.post.ensures w.still_waits.ensures
+          (sym c.fits_header.ensures ∙ w.if-fits_header.true) w.overflow_event.ensures w.post.ensures.held w.still_waits.ensures
           w.if-not-still_waits.true w.queue_freed.ensures)
       | then-fits_header+else-not-still_waits w ↦
           rw w.q-is
           (handing-more e c.args.owner c.args.entries.now left c.part-part.result.now c.loop-i.i zero_header _ c.loop-i.q c.loop-i.invariant (search rules)
           w.post.new.self w.overflow_event.result w.still_waits.result
-          (sym c.fits_header.ensures ∙ w.if-fits_header.true) w.overflow_event.ensures w.post.ensures w.still_waits.ensures
+          (sym c.fits_header.ensures ∙ w.if-fits_header.true) w.overflow_event.ensures w.post.ensures.held w.still_waits.ensures
           w.if-not-still_waits.false)
       | else-fits_header w ↦
           rw w.q-is

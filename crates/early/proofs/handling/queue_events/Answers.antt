@@ -29,4 +29,4 @@ returns-in-Link c =
     let link = link_event c.args.found.now.entry.now handle in
     rw c.in-Link.is
     (then-posted _ _ (queue_of c.args.q.now) (hand_out_events c.args.found.now.entry.now handle c.args.entries.now w.left w.found) (link ∷ [])
-    c.queue_handed_out-in-Link.ensures (issued-posted _ (queue_of c.queue_handed_out-in-Link.new.q) _ link c.link_event.ensures c.post.ensures))
+    c.queue_handed_out-in-Link.ensures (issued-posted _ (queue_of c.queue_handed_out-in-Link.new.q) _ link c.link_event.ensures c.post.ensures.held))

@@ -25,4 +25,4 @@ returns-in-Link c =
     let link = link_event c.args.e.now handle in
     rw c.in-Link.is
     (then-posted _ _ (queue_of c.args.q.now) (hand_out_events c.args.e.now handle c.args.entries.now c.args.left.now c.args.found.now) (link ∷ [])
-    c.queue_handed_out_lists-in-Link.ensures (issued-posted _ (queue_of c.queue_handed_out_lists-in-Link.new.q) _ link c.link_event.ensures c.post.ensures))
+    c.queue_handed_out_lists-in-Link.ensures (issued-posted _ (queue_of c.queue_handed_out_lists-in-Link.new.q) _ link c.link_event.ensures c.post.ensures.held))

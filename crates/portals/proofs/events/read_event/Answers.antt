@@ -7,4 +7,4 @@ returns-in_err-test_state c =
     rw (handed-on _ _ c.from_residual.ensures.1) (refused-kept read-event-guarded c.args.t.now _ c.in_err-test_state.ensures)
 
 pub returns : goal.returns
-returns c = read-event-met c.args.t.now c.take.new.self c.take.result c.in_ok-test_state.ensures c.take.ensures
+returns c = read-event-met c.args.t.now c.take.new.self c.take.result c.in_ok-test_state.ensures c.take.ensures.held

@@ -2,5 +2,5 @@
 use Rattle.state.proofs.SlotLaws.{replaced}
 use Rattle.state.proofs.layout.Entries.replace.Goals as goal
 
-pub returns : goal.returns
-returns c = let es = c.args.self.now in replaced es.slots es.count c.args.at c.args.x c.requires.entries_fit c.requires.at_lt_count
+pub returns-clause-held : goal.returns-clause-held
+returns-clause-held c = let es = c.args.self.now in replaced es.slots es.count c.args.at c.args.x c.requires.entries_fit c.requires.at_lt_count

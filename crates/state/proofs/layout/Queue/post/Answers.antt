@@ -5,8 +5,8 @@ use Rattle.state.specs.Sizes.{EVENTS}
 use Rattle.state.proofs.PostLaws.{joined}
 use Rattle.state.proofs.layout.Queue.post.Goals as goal
 
-pub returns : goal.returns
-returns c =
+pub returns-clause-held : goal.returns-clause-held
+returns-clause-held c =
     let q = c.args.self.now in
     let differs : q.count ≡ EVENTS → ⊥ = eqb-false q.count EVENTS (sym c.is_full.ensures ∙ c.if-is_full.false) in
     let room : q.count < EVENTS = omega (arith, c.requires.room, differs) in
