@@ -13,4 +13,4 @@ returns-in_err-d c =
 pub returns : goal.returns
 returns c =
     rw (c.answer_by.ensures, c.bytes_got.ensures)
-    (get-met c.args.t.now c.carry_out.new.t c.args.memory.now c.args.q c.args.reply.now (Ok _) c.in_ok-d.ensures c.carry_out.ensures)
+    (get-met c.args.t.now c.carry_out.new.t c.args.memory.now c.args.q c.args.reply.now (Ok _) c.in_ok-d.ensures c.carry_out.ensures.held)
