@@ -1,7 +1,7 @@
 -- The loops over the headers that were found, and over the entries that keep their slot.
 use Rattle.std.proofs.Common.{◌≡◌, ℕ, ◌+◌, ◌-◌, ◌<◌, ◌≤◌, Bool, true, false, cond, not, ◌&&◌, ◌||◌, List, [], ◌∷◌, ◌++◌, length, map, take, drop, get_or, eqb, refl, ap, sym, ◌∙◌, arith, eqb-true, ne_eqb, length-append, length-drop, length-take-le, take-take, drop-drop, drop_at}
-use lib.Seq.{take-append-add, take-append-le, drop-append-add, take-paste}
-use Rattle.std.proofs.lemmas.List.{drop-take}
+use lib.Seq.{paste, take-append-add, take-append-le, drop-append-add, take-paste, drop-paste, take-add}
+use Rattle.std.proofs.lemmas.List.{drop-take, take-append-drop, nil_from_length}
 use mathlib.Core.Bool.{and-true, and-false}
 use borrow.Author.Tests.{eqb-false}
 use Rattle.std.proofs.Math.Seq.{take-length}
@@ -106,6 +106,31 @@ front-kept s part p count kept fits same few front =
 -- to select those that do not pass is to leave those that do
 pub select-not : {A : Type 0} (p : A → Bool) (l : List A) → select (λ x. not (p x)) l ≡ select_not p l
 select-not p l = sym (filter-select (λ x. not (p x)) l) ∙ filter-select_not p l
+
+-- elements are copied to where they stand
+copied-same : {A : Type 0} (d : List A) (at n : ℕ) → at + n ≤ length d → paste d at (drop at d) n ≡ d
+copied-same d at n h =
+    let few : n ≤ length (drop at d) = omega (arith, length-drop at d) in
+    sym (take-append-drop (at + n) (paste d at (drop at d) n))
+    ∙ rw (take-paste d at (drop at d) n (omega arith) few, drop-paste d at (drop at d) n (omega arith) few, ← take-add at n d)
+    (take-append-drop (at + n) d)
+
+-- where the part is empty, no header moves
+pub none-moved : {A : Type 0} (s part s' : List A) (first end count kept : ℕ)
+    → first ≡ end
+    → end ≤ count
+    → count ≤ length s
+    → length part ≡ length (take (end - first) (drop first s))
+    → kept ≤ length (take (end - first) (drop first s))
+    → s' ≡ copy_within (take first s ++ (part ++ drop (end - first) (drop first s))) end count (first + kept)
+    → (s' ≡ s) × (count - (end - (first + kept)) ≡ count)
+none-moved s part s' first end count kept e within room same few after =
+    let zero : end - first ≡ 0 = omega arith in
+    let middle : length (take (end - first) (drop first s)) ≡ 0 = ap (λ (n : ℕ). length (take n (drop first s))) zero in
+    let none : part ≡ [] = nil_from_length part (same ∙ middle) in
+    let at : first + kept ≡ end = omega (arith, middle) in
+    let whole : take first s ++ (part ++ drop (end - first) (drop first s)) ≡ s = rw (none, zero) (take-append-drop first s) in
+    (after ∙ rw (whole, at) (copied-same s end (count - end) (omega arith)), omega (arith, at))
 
 -- those of a part that do not pass stand at its front, and those after it move up behind them
 pub headers-left : {A : Type 0} {size : ℕ} (s part s' : List A) (p : A → Bool) (first end count kept : ℕ)

@@ -8,25 +8,25 @@ use Rattle.early.specs.Handling.{closing_events}
 use Rattle.early.specs.Parts.{walk_of}
 use Rattle.early.proofs.handling.queue_events.Goals as goal
 
-pub returns-in-Look : goal.returns-in-Look
-returns-in-Look c =
+pub returns-in-Look-clause-held : goal.returns-in-Look-clause-held
+returns-in-Look-clause-held c =
     let w = walk_of c.args.found.now.entry.now c.args.found.now.headers.now c.args.found.now.walked in
     rw c.in-Look.is
     (then-posted _ _ (queue_of c.args.q.now) (map (search_event c.args.found.now.entry.now) w.found) (closing_events c.args.found.now.entry.now w)
-    (rw c.part.ensures at c.queue_found.ensures) c.queue_closed.ensures)
+    (rw c.part.ensures at c.queue_found.ensures.held) c.queue_closed.ensures.held)
 
-pub returns-in-Delete : goal.returns-in-Delete
-returns-in-Delete c =
+pub returns-in-Delete-clause-held : goal.returns-in-Delete-clause-held
+returns-in-Delete-clause-held c =
     let w = walk_of c.args.found.now.entry.now c.args.found.now.headers.now c.args.found.now.walked in
     rw c.in-Delete.is
     (then-posted _ _ (queue_of c.args.q.now) (hand_out_events c.args.found.now.entry.now 0 c.args.entries.now w.left w.found) (closing_events c.args.found.now.entry.now w)
-    c.queue_handed_out.ensures c.queue_closed-in-Delete.ensures)
+    c.queue_handed_out.ensures.held c.queue_closed-in-Delete.ensures.held)
 
-pub returns-in-Link : goal.returns-in-Link
-returns-in-Link c =
+pub returns-in-Link-clause-held : goal.returns-in-Link-clause-held
+returns-in-Link-clause-held c =
     let w = walk_of c.args.found.now.entry.now c.args.found.now.headers.now c.args.found.now.walked in
     let handle = c.in-Link.handle in
     let link = link_event c.args.found.now.entry.now handle in
     rw c.in-Link.is
     (then-posted _ _ (queue_of c.args.q.now) (hand_out_events c.args.found.now.entry.now handle c.args.entries.now w.left w.found) (link ∷ [])
-    c.queue_handed_out-in-Link.ensures (issued-posted _ (queue_of c.queue_handed_out-in-Link.new.q) _ link c.link_event.ensures c.post.ensures.held))
+    c.queue_handed_out-in-Link.ensures.held (issued-posted _ (queue_of c.queue_handed_out-in-Link.new.q) _ link c.link_event.ensures c.post.ensures.held))

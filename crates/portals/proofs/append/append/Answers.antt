@@ -20,4 +20,4 @@ returns c =
     rw c.taken_or_linked-answer.ensures
     (append-met c.args.t.now c.handle.new.t c.args.e c.walk_if-w.result c.found_once-taken.result c.in_ok-append_admitted.ensures
     walked (c.found_once-taken.ensures (headers_of c.args.t.now.unexpected) walked.fits)
-    (rw (c.append_handling.ensures, c.taken_or_linked-answer.ensures) at c.handle.ensures))
+    (rw (c.append_handling.ensures, c.taken_or_linked-answer.ensures) at c.handle.ensures.held))

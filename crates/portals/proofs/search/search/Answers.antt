@@ -23,4 +23,4 @@ returns c =
     (search-admits c.args.t.now c.args.e _ (rw c.test_entry.ensures at c.in_ok-admit.ensures))
     (rw c.in_use.ensures at c.walk_for-w.ensures)
     (rw c.in_use-2.ensures at c.found_count-found.ensures)
-    (rw c.search_handling.ensures at c.handle.ensures)
+    (rw c.search_handling.ensures at c.handle.ensures.held)
